@@ -1,0 +1,14 @@
+-- Laws of classes, over any set S of residues below pⁿ.
+pub mod Equal
+pub mod Digit
+pub mod Whole
+pub mod Level
+pub mod Cover
+pub mod Rising
+pub mod Rival
+pub mod Agree
+pub mod Concat
+pub mod Tree
+pub mod Members
+pub mod Sum
+pub mod Share

@@ -1,0 +1,41 @@
+-- Lists of classes that are put one after the other.
+use mathlib.Core.Path.{_≡_}
+use mathlib.Core.Logic.{_⊎_, inl, inr}
+use mathlib.Core.List.{List, _++_}
+use Prim.Native.Nat.{ℕ, zero, suc, _<_}
+use native.Mathlib.Nat.{eq-or-lt-of-le}
+use native.Mathlib.Omega.{arith}
+use Rattle.theory.specs.Lists.{In}
+use Rattle.theory.specs.Class.{Class}
+use Rattle.theory.specs.Tree.{concatBelow}
+use Rattle.theory.proofs.Lists.Names.{in-nil, in-append, in-left, in-right}
+use Rattle.theory.proofs.Lists.NoRepeat.{NoRepeat, no-repeat-append}
+
+pub in-concat : (f : ℕ → List Class) (k : ℕ) (e : Class) → In e (concatBelow f k) → (c : ℕ) × (c < k) × In e (f c)
+unfolding concatBelow
+in-concat f zero e m = absurd (in-nil m)
+in-concat f (suc k) e m = go (in-concat f k e) (in-append (concatBelow f k) m)
+  where
+    go : (In e (concatBelow f k) → (c : ℕ) × (c < k) × In e (f c)) → In e (concatBelow f k) ⊎ In e (f k)
+        → (c : ℕ) × (c < suc k) × In e (f c)
+    go ih (inl u) = let (c, l, w) = ih u in (c, omega arith, w)
+    go ih (inr u) = (k, omega arith, u)
+
+pub concat-in : (f : ℕ → List Class) (k c : ℕ) (e : Class) → c < k → In e (f c) → In e (concatBelow f k)
+unfolding concatBelow
+concat-in f zero c e h m = absurd (omega arith)
+concat-in f (suc k) c e h m = go (λ (l : c < k). concat-in f k c e l m) (eq-or-lt-of-le h)
+  where
+    go : (c < k → In e (concatBelow f k)) → (suc c ≡ suc k) ⊎ (suc c < suc k) → In e (concatBelow f k ++ f k)
+    go ih (inl q) = let q′ : c ≡ k = omega arith in in-right (concatBelow f k) (rw q′ at m)
+    go ih (inr l) = in-left (f k) (ih (omega arith))
+
+pub no-repeat-concat : (f : ℕ → List Class) (k : ℕ) → ((c : ℕ) → c < k → NoRepeat (f c))
+    → ((c d : ℕ) (e : Class) → c < k → d < k → In e (f c) → In e (f d) → c ≡ d) → NoRepeat (concatBelow f k)
+unfolding concatBelow
+no-repeat-concat f zero each apart = tt
+no-repeat-concat f (suc k) each apart =
+    no-repeat-append (concatBelow f k) (f k)
+    (no-repeat-concat f k (λ c l. each c (omega arith)) (λ c d e l l′ u v. apart c d e (omega arith) (omega arith) u v))
+    (each k (omega arith))
+    (λ e u v. let (c, l, w) = in-concat f k e u in omega (arith, apart c k e (omega arith) (omega arith) w v))

@@ -1,0 +1,11 @@
+-- What is proved of the definitions. General laws first, then those of classes, polynomials, maps and stepping.
+pub mod Tests
+pub mod Lists
+pub mod Numbers
+pub mod Range
+pub mod Classes
+pub mod Polynomials
+pub mod RootMap
+pub mod Stepping
+pub mod ThirdDemand
+pub mod Examples

@@ -1,0 +1,8 @@
+-- General laws of lists.
+pub mod Names
+pub mod Map
+pub mod NoRepeat
+pub mod Permutation
+pub mod Pigeonhole
+pub mod Index
+pub mod Minimum

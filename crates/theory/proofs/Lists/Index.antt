@@ -1,0 +1,22 @@
+-- Entries by their index.
+use mathlib.Core.Path.{_≡_, refl, sym, ap}
+use mathlib.Core.List.{List, [], _∷_}
+use Prim.Native.Nat.{ℕ, zero, suc, _<_}
+use native.Mathlib.Omega.{arith}
+use lib.ListN.{length, getD}
+use Rattle.theory.specs.Lists.{In, here, there}
+use Rattle.theory.proofs.Lists.Names.{in-cast}
+use Rattle.theory.proofs.Lists.NoRepeat.{NoRepeat}
+
+pub in-at : {A : Type 0} (l : List A) (i : ℕ) (d : A) → i < length l → In (getD l i d) l
+in-at [] i d h = absurd (omega arith)
+in-at (x ∷ l) zero d h = here refl
+in-at (x ∷ l) (suc i) d h = there (in-at l i d (omega arith))
+
+-- where no entry is repeated, equal entries stand at one index
+pub same-index : {A : Type 0} (l : List A) (d : A) → NoRepeat l → (i j : ℕ) → i < length l → j < length l → getD l i d ≡ getD l j d → i ≡ j
+same-index [] d nr i j hi hj e = absurd (omega arith)
+same-index (x ∷ l) d nr zero zero hi hj e = refl
+same-index (x ∷ l) d nr zero (suc j) hi hj e = absurd (nr .0 (in-cast e (in-at l j d (omega arith))))
+same-index (x ∷ l) d nr (suc i) zero hi hj e = absurd (nr .0 (in-cast (sym e) (in-at l i d (omega arith))))
+same-index (x ∷ l) d nr (suc i) (suc j) hi hj e = ap suc (same-index l d (nr .1) i j (omega arith) (omega arith) e)

@@ -1,0 +1,32 @@
+-- Lists in which no entry is repeated.
+use mathlib.Core.Path.{_≡_, refl, sym, ap, _∙_}
+use mathlib.Core.Logic.{_⊎_, inl, inr}
+use mathlib.Core.List.{List, [], _∷_, _++_, map}
+use Rattle.theory.specs.Lists.{In, here, there}
+use Rattle.theory.proofs.Lists.Names.{in-append, in-cast}
+use Rattle.theory.proofs.Lists.Map.{in-map, map-in}
+
+abbrev pub NoRepeat : {A : Type 0} → List A → Type 0
+NoRepeat [] = Unit {0}
+NoRepeat (x ∷ l) = (In x l → ⊥) × NoRepeat l
+
+pub no-repeat-map : {A B : Type 0} (f : A → B) → ((x y : A) → f x ≡ f y → x ≡ y) → (l : List A) → NoRepeat l → NoRepeat (map f l)
+no-repeat-map f inj [] nr = tt
+no-repeat-map f inj (x ∷ l) nr =
+    ((λ m. let (a, u, e) = in-map f l (f x) m in nr .0 (in-cast (inj x a e) u)), no-repeat-map f inj l (nr .1))
+
+pub no-repeat-append : {A : Type 0} (l m : List A) → NoRepeat l → NoRepeat m → ((x : A) → In x l → In x m → ⊥) → NoRepeat (l ++ m)
+no-repeat-append [] m nl nm apart = nm
+no-repeat-append {A} (x ∷ l) m nl nm apart =
+    ((λ u. go (in-append l u)), no-repeat-append l m (nl .1) nm (λ y u v. apart y (there u) v))
+  where
+    go : In x l ⊎ In x m → ⊥
+    go (inl u) = nl .0 u
+    go (inr u) = apart x (here refl) u
+
+-- where the images are not repeated, f tells the entries apart
+pub injective-on : {A B : Type 0} (f : A → B) (l : List A) → NoRepeat (map f l) → (x y : A) → In x l → In y l → f x ≡ f y → x ≡ y
+injective-on f (a ∷ l) nr x y (here q) (here r) e = q ∙ sym r
+injective-on f (a ∷ l) nr x y (here q) (there w) e = absurd (nr .0 (in-cast (ap f (sym q) ∙ e) (map-in f l y w)))
+injective-on f (a ∷ l) nr x y (there u) (here r) e = absurd (nr .0 (in-cast (ap f (sym r) ∙ sym e) (map-in f l x u)))
+injective-on f (a ∷ l) nr x y (there u) (there w) e = injective-on f l (nr .1) x y u w e

@@ -1,0 +1,6 @@
+-- General laws of numbers.
+pub mod Power
+pub mod Congruence
+pub mod Prime
+pub mod Euclid
+pub mod Valuation

@@ -1,0 +1,22 @@
+-- Powers of a base.
+use mathlib.Core.Path.{_≡_, ap, _∙_}
+use Prim.Native.Nat.{ℕ, _-_, _*_, _^_, _≤_, _<_, _∣_}
+use native.Mathlib.Nat.{one-le-pow, dvd-mul-left, mul-le-mul-right, pow-le-pow-right, pow-succ', pow-zero}
+use native.Mathlib.Omega.{arith}
+use lib.Pow.{pow-add}
+
+pub pow-pos : (p : ℕ) → 0 < p → (t : ℕ) → 0 < p ^ t
+pow-pos p hp t = one-le-pow t p hp
+
+pub pow-one : (p : ℕ) → p ^ 1 ≡ p
+pow-one p = pow-succ' p 0 ∙ rw (pow-zero p) (omega arith)
+
+pub pow-split : (p : ℕ) {t n : ℕ} → t ≤ n → p ^ n ≡ p ^ (n - t) * p ^ t
+pow-split p {t} {n} h = ap (λ (x : ℕ). p ^ x) (omega arith) ∙ pow-add p (n - t) t
+
+pub pow-dvd : (p : ℕ) {t n : ℕ} → t ≤ n → p ^ t ∣ p ^ n
+pow-dvd p {t} {n} h = rw (pow-split p h) (dvd-mul-left (p ^ t) (p ^ (n - t)))
+
+pub pow-lt : (p : ℕ) → 2 ≤ p → {l m : ℕ} → l < m → p ^ l < p ^ m
+pow-lt p two {l} {m} h =
+    omega (arith, pow-le-pow-right {n = p} (omega arith) h, pow-succ' p l, mul-le-mul-right (p ^ l) two, one-le-pow l p (omega arith))

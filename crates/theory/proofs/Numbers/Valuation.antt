@@ -1,0 +1,87 @@
+-- Valuations: p^k divides x exactly if k is at most the valuation of x.
+use mathlib.Core.Path.{_≡_, refl, sym, subst}
+use mathlib.Core.Bool.{Bool, true, false}
+use Prim.Native.Nat.{ℕ, zero, suc, _*_, _/_, _^_, _≤_, _<_, _∣_}
+use native.Mathlib.Nat.{mul-zero, mul-le-mul-right, one-dvd, dvd-trans, mul-dvd-mul-left, dvd-of-mul-dvd-mul-left, mul-div-cancel'}
+use native.Mathlib.Nat.{div-lt-iff-lt-mul, pow-zero}
+use native.Mathlib.Nat.{pow-suc, pow-succ', le-antisymm}
+use native.Mathlib.Decide.{decLe}
+use native.Mathlib.Omega.{arith}
+use Rattle.theory.specs.Prime.{divides}
+use Rattle.theory.specs.Degree.{divisions, valuation}
+use Rattle.theory.proofs.Numbers.Power.{pow-dvd, pow-one}
+use Rattle.theory.proofs.Numbers.Prime.{divides-dvd, dvd-divides}
+use Rattle.theory.proofs.Tests.{contradiction}
+
+divisions-on : (k p x : ℕ) → divides p x ≡ true → divisions (suc k) p x ≡ suc (divisions k p (x / p))
+unfolding divisions
+divisions-on k p x e = rw (e, divisions)
+
+divisions-off : (k p x : ℕ) → divides p x ≡ false → divisions (suc k) p x ≡ 0
+unfolding divisions
+divisions-off k p x e = rw (e, divisions)
+
+-- p^(t + 1) divides p·y exactly if p^t divides y
+pub power-times : (p t y : ℕ) → p ^ t ∣ y → p ^ suc t ∣ p * y
+power-times p t y d = rw (pow-succ' p t) (mul-dvd-mul-left (p ^ t) p d)
+
+pub times-power : (p t y : ℕ) → 0 < p → p ^ suc t ∣ p * y → p ^ t ∣ y
+times-power p t y hp d = dvd-of-mul-dvd-mul-left (p ^ t) hp (rw (pow-succ' p t) at d)
+
+divisions-dvd : (k p x : ℕ) → p ^ divisions k p x ∣ x
+unfolding divisions
+divisions-dvd zero p x = rw (pow-zero p) (one-dvd x)
+divisions-dvd (suc k) p x = go (divisions-dvd k p (x / p)) (divides p x) refl
+  where
+    go : p ^ divisions k p (x / p) ∣ x / p → (b : Bool) → divides p x ≡ b → p ^ divisions (suc k) p x ∣ x
+    go ih true e =
+        rw (divisions-on k p x e)
+        (subst (λ (z : ℕ). p ^ suc (divisions k p (x / p)) ∣ z) (mul-div-cancel' p (divides-dvd p x e))
+        (power-times p (divisions k p (x / p)) (x / p) ih))
+    go ih false e = rw (divisions-off k p x e, pow-zero p) (one-dvd x)
+
+divisions-most : (k p x : ℕ) → 0 < p → 0 < x → x < p ^ k → ¬ (p ^ suc (divisions k p x) ∣ x)
+divisions-most zero p x hp h l d = omega (arith, rw (pow-zero p) at l)
+divisions-most (suc k) p x hp h l d = go (divisions-most k p (x / p) hp) (divides p x) refl
+  where
+    go : (0 < x / p → x / p < p ^ k → ¬ (p ^ suc (divisions k p (x / p)) ∣ x / p)) → (b : Bool) → divides p x ≡ b → ⊥
+    go ih true e =
+        let q : p * (x / p) ≡ x = mul-div-cancel' p (divides-dvd p x e) in
+        let low : 0 < x / p = positive (x / p) q in
+        let high : x / p < p ^ k = div-lt-iff-lt-mul hp .1 (rw (pow-suc p k) at l) in
+        let v = rw (divisions-on k p x e) at d in
+        let t = suc (divisions k p (x / p)) in
+        ih low high (times-power p t (x / p) hp (subst (λ (z : ℕ). p ^ suc t ∣ z) (sym q) v))
+      where
+        positive : (y : ℕ) → p * y ≡ x → 0 < y
+        positive zero q = absurd (omega (arith, mul-zero p))
+        positive (suc y) q = omega arith
+    go ih false e = contradiction (dvd-divides p x (rw (divisions-off k p x e, pow-one p) at d)) e
+
+below-power : (p x : ℕ) → 2 ≤ p → x < p ^ x
+below-power p zero two = rw (pow-zero p) (omega arith)
+below-power p (suc x) two = omega (arith, pow-succ' p x, below-power p x two, mul-le-mul-right (p ^ x) two)
+
+module _ (p : ℕ) (two : 2 ≤ p) where
+  pub valuation-dvd : (x : ℕ) → p ^ valuation p x ∣ x
+  unfolding valuation
+  valuation-dvd x = divisions-dvd x p x
+
+  pub valuation-most : (x : ℕ) → 0 < x → ¬ (p ^ suc (valuation p x) ∣ x)
+  unfolding valuation
+  valuation-most x h = divisions-most x p x (omega arith) h (below-power p x two)
+
+  pub le-valuation : (x k : ℕ) → 0 < x → p ^ k ∣ x → k ≤ valuation p x
+  le-valuation x k h d = go (decLe k (valuation p x))
+    where
+      go : Dec (k ≤ valuation p x) → k ≤ valuation p x
+      go (yes l) = l
+      go (no l) = absurd (valuation-most x h (dvd-trans (p ^ suc (valuation p x)) (pow-dvd p (omega arith)) d))
+
+  -- and only the valuation has both
+  pub valuation-unique : (x v : ℕ) → 0 < x → p ^ v ∣ x → ¬ (p ^ suc v ∣ x) → v ≡ valuation p x
+  valuation-unique x v h d f = le-antisymm (le-valuation x v h d) (go (decLe (valuation p x) v))
+    where
+      go : Dec (valuation p x ≤ v) → valuation p x ≤ v
+      go (yes l) = l
+      go (no l) = absurd (f (dvd-trans (p ^ suc v) (pow-dvd p (omega arith)) (valuation-dvd x)))

@@ -1,0 +1,12 @@
+-- Laws of polynomials and their zeros.
+pub mod Arithmetic
+pub mod Taylor
+pub mod Congruence
+pub mod Zeros
+pub mod Quotient
+pub mod Orders
+pub mod Bound
+pub mod Highest
+pub mod Degree
+pub mod Roots
+pub mod Signed

@@ -1,0 +1,71 @@
+-- The solver's list for the roots of f: at most D classes, and the one class of everything where pⁿ divides all coefficients.
+use mathlib.Core.Path.{_≡_, sym}
+use mathlib.Core.Bool.{Bool, true, false}
+use mathlib.Core.List.{List, [], _∷_}
+use Prim.Native.Nat.{ℕ, _^_, _≤_, _<_}
+use native.Mathlib.Nat.{dvd-zero}
+use native.Mathlib.Omega.{arith}
+use lib.IntN.{ℤ}
+use lib.ListN.{length, length-map}
+use Rattle.theory.specs.Lists.{In}
+use Rattle.theory.specs.Polynomial.{reduce, reduced, roots}
+use Rattle.theory.specs.Degree.{leastValuation, degreeBound, allZero}
+use Rattle.theory.specs.Class.{class}
+use Rattle.theory.specs.Shortest.{shortest}
+use Rattle.theory.specs.Tree.{tree}
+use Rattle.theory.proofs.Lists.Names.{in-nil}
+use Rattle.theory.proofs.Lists.Map.{in-map}
+use Rattle.theory.proofs.Lists.Permutation.{perm-length}
+use Rattle.theory.proofs.Numbers.Power.{pow-pos}
+use Rattle.theory.proofs.Numbers.Prime.{Prime, prime-pos}
+use Rattle.theory.proofs.Range.{all-intro}
+use Rattle.theory.proofs.Classes.Rising.{rising-perm, shortest-rising}
+use Rattle.theory.proofs.Classes.Tree.{tree-whole, tree-perm}
+use Rattle.theory.proofs.Polynomials.Arithmetic.{dvd-value}
+use Rattle.theory.proofs.Polynomials.Zeros.{dvd-zero-at}
+use Rattle.theory.proofs.Polynomials.Bound.{tree-at-most}
+use Rattle.theory.proofs.Polynomials.Highest.{all-zero-coef}
+use Rattle.theory.proofs.Polynomials.Degree.{degree-bound-degree, degree-bound-lt, least-valuation-lt}
+use Rattle.theory.proofs.Polynomials.Signed.{reduce-lt}
+
+-- a set that holds every residue is listed as the one class of everything
+pub everything : (S : ℕ → Bool) (p n : ℕ) → 2 ≤ p → ((r : ℕ) → r < p ^ n → S r ≡ true) → shortest S p n ≡ class 0 0 ∷ []
+everything S p n two all =
+    let t : tree S p n ≡ class 0 0 ∷ [] = tree-whole S p n (all-intro S (p ^ n) all) in
+    sym (rising-perm (class 0 0 ∷ []) (shortest S p n) ((λ d u. absurd (in-nil u)), tt) (shortest-rising S p n)
+    (rw t at (tree-perm p (omega arith) two S n)))
+
+-- reduced coefficients are below pⁿ
+pub reduced-lt : (f : List ℤ) (p n : ℕ) → 0 < p → (a : ℕ) → In a (reduced f p n) → a < p ^ n
+unfolding reduced
+reduced-lt f p n hp a u = let (z, v, e) = in-map (reduce (p ^ n)) f a u in rw e (reduce-lt (p ^ n) (pow-pos p hp n) z)
+
+-- where pⁿ divides all coefficients, everything is a root
+pub all-zero-roots : (f : List ℤ) (p n : ℕ) → allZero (reduced f p n) ≡ true → (r : ℕ) → roots f p n r ≡ true
+unfolding roots
+all-zero-roots f p n e r =
+    dvd-zero-at (reduced f p n) p n r
+    (dvd-value (p ^ n) (reduced f p n) r (λ i. rw (all-zero-coef (reduced f p n) e i) (dvd-zero (p ^ n))))
+
+-- "If all are zero, everything is a root"
+pub all-zero-list : (f : List ℤ) (p n : ℕ) → 2 ≤ p → allZero (reduced f p n) ≡ true → shortest (roots f p n) p n ≡ class 0 0 ∷ []
+all-zero-list f p n two e = everything (roots f p n) p n two (λ r h. all-zero-roots f p n e r)
+
+module _ (f : List ℤ) (p n : ℕ) (P : Prime p) (some-left : allZero (reduced f p n) ≡ false) where
+  -- "it has at most D classes"
+  pub at-most-D : length (shortest (roots f p n) p n) ≤ degreeBound p (reduced f p n)
+  unfolding roots
+  at-most-D =
+      let g = reduced f p n in
+      omega (
+        arith,
+        perm-length (tree-perm p (prime-pos P) (P .two) (roots f p n) n),
+        tree-at-most p P n n (leastValuation p g) (degreeBound p g) g
+            (least-valuation-lt p (P .two) g some-left n (reduced-lt f p n (prime-pos P)))
+            (degree-bound-degree p (P .two) g some-left),
+      )
+
+  -- and D is an index of a coefficient
+  pub D-lt : degreeBound p (reduced f p n) < length f
+  unfolding reduced
+  D-lt = omega (arith, degree-bound-lt p (P .two) (reduced f p n) some-left, length-map f (reduce (p ^ n)))

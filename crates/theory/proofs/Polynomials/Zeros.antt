@@ -1,0 +1,54 @@
+-- The zeros of a polynomial modulo a power of p: below a digit, after a division by p, and where a digit holds none.
+use mathlib.Core.Path.{_≡_, sym, ap, _∙_, subst₂, fun-ext}
+use mathlib.Core.Bool.{true, false}
+use mathlib.Core.List.{List}
+use Prim.Native.Nat.{ℕ, _+_, _*_, _^_, _<_, _∣_}
+use native.Mathlib.Nat.{mul-dvd-mul-left, dvd-of-mul-dvd-mul-left, dvd-trans, add-mul-mod-self-left, one-dvd, pow-zero}
+use lib.Pow.{pow-add}
+use Rattle.theory.specs.Prime.{divides}
+use Rattle.theory.specs.Polynomial.{value, zeros}
+use Rattle.theory.specs.Tree.{branch}
+use Rattle.theory.proofs.Tests.{same-test, not-holding}
+use Rattle.theory.proofs.Numbers.Power.{pow-pos, pow-one, pow-dvd}
+use Rattle.theory.proofs.Numbers.Prime.{divides-dvd, dvd-divides}
+use Rattle.theory.proofs.Numbers.Congruence.{cong-dvd}
+use Rattle.theory.proofs.Polynomials.Arithmetic.{coef, divided, scale-divided, value-scale}
+use Rattle.theory.proofs.Polynomials.Taylor.{shifted, value-shifted}
+use Rattle.theory.proofs.Polynomials.Congruence.{cong-argument}
+
+pub zero-dvd : (f : List ℕ) (p n y : ℕ) → zeros f p n y ≡ true → p ^ n ∣ value f y
+unfolding zeros
+zero-dvd f p n y e = divides-dvd (p ^ n) (value f y) e
+
+pub dvd-zero-at : (f : List ℕ) (p n y : ℕ) → p ^ n ∣ value f y → zeros f p n y ≡ true
+unfolding zeros
+dvd-zero-at f p n y d = dvd-divides (p ^ n) (value f y) d
+
+-- below the digit c lie the zeros of f(c + p·y)
+pub zeros-branch : (f : List ℕ) (p n c : ℕ) → branch (zeros f p n) p c ≡ zeros (shifted c p f) p n
+unfolding zeros
+zeros-branch f p n c = fun-ext (λ y. ap (divides (p ^ n)) (sym (value-shifted c p f y)))
+
+-- where p^v divides every coefficient: the zeros modulo p^(v + e) are those of the quotient modulo p^e
+pub zeros-divided : (f : List ℕ) (p v e : ℕ) → 0 < p → ((i : ℕ) → p ^ v ∣ coef f i) → zeros f p (v + e) ≡ zeros (divided (p ^ v) f) p e
+zeros-divided f p v e hp h =
+    fun-ext (λ y. same-test (zeros f p (v + e) y) (zeros (divided (p ^ v) f) p e y)
+    (λ u. dvd-zero-at (divided (p ^ v) f) p e y
+    (dvd-of-mul-dvd-mul-left (p ^ e) (pow-pos p hp v) (subst₂ (λ (a b : ℕ). a ∣ b) (pow-add p v e) (times y) (zero-dvd f p (v + e) y u))))
+    (λ u. dvd-zero-at f p (v + e) y
+    (subst₂ (λ (a b : ℕ). a ∣ b) (sym (pow-add p v e)) (sym (times y))
+    (mul-dvd-mul-left (p ^ e) (p ^ v) (zero-dvd (divided (p ^ v) f) p e y u)))))
+  where
+    times : (y : ℕ) → value f y ≡ p ^ v * value (divided (p ^ v) f) y
+    times y = ap (λ (g : List ℕ). value g y) (sym (scale-divided (p ^ v) f h)) ∙ value-scale (p ^ v) (divided (p ^ v) f) y
+
+-- a digit at which the value is not a multiple of p holds no zero modulo p^e, 0 < e
+pub no-zero-below : (f : List ℕ) (p e c : ℕ) → 0 < e → ¬ (p ∣ value f c) → (y : ℕ) → branch (zeros f p e) p c y ≡ false
+no-zero-below f p e c h none y =
+    not-holding (zeros f p e (c + p * y)) (λ u.
+    none (cong-dvd (cong-argument f (record { same = add-mul-mod-self-left c p y }))
+    (dvd-trans p (rw (pow-one p) at (pow-dvd p {t = 1} {n = e} h)) (zero-dvd f p e (c + p * y) u))))
+
+-- modulo p^0 everything is a zero
+pub zeros-everything : (f : List ℕ) (p y : ℕ) → zeros f p 0 y ≡ true
+zeros-everything f p y = dvd-zero-at f p 0 y (rw (pow-zero p) (one-dvd (value f y)))
