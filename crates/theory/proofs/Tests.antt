@@ -31,6 +31,14 @@ pub or-right : (a b : Bool) → b ≡ true → (a || b) ≡ true
 or-right true b e = refl
 or-right false b e = e
 
+pub or-fails-left : (a b : Bool) → (a || b) ≡ false → a ≡ false
+or-fails-left true b e = e
+or-fails-left false b e = refl
+
+pub or-fails-right : (a b : Bool) → (a || b) ≡ false → b ≡ false
+or-fails-right true b e = absurd (true≢false e)
+or-fails-right false b e = e
+
 -- two tests that imply each other are equal
 pub same-test : (a b : Bool) → (a ≡ true → b ≡ true) → (b ≡ true → a ≡ true) → a ≡ b
 same-test true b f g = sym (f refl)

@@ -1,9 +1,10 @@
 -- Primes, and the least divisor of a number.
-use mathlib.Core.Path.{_≡_, refl}
+use mathlib.Core.Path.{_≡_, refl, sym, _∙_, subst}
 use mathlib.Core.Logic.{_⊎_, inl, inr}
 use mathlib.Core.Bool.{Bool, true, false, not}
-use Prim.Native.Nat.{ℕ, _+_, _-_, _%_, _≤_, _<_, _∣_}
-use native.Mathlib.Nat.{mod-eq-zero-of-dvd, dvd-of-mod-eq-zero, eq-or-lt-of-le, dvd-refl}
+use Prim.Native.Nat.{ℕ, zero, suc, _+_, _-_, _*_, _/_, _%_, _≤_, _<_, _∣_}
+use native.Mathlib.Nat.{mod-eq-zero-of-dvd, dvd-of-mod-eq-zero, eq-or-lt-of-le, dvd-refl, dvd-mul-right, div-mul-cancel, zero-mul, one-mul}
+use native.Mathlib.Nat.{mul-le-mul}
 use native.Mathlib.Decide.{decLe}
 use native.Mathlib.Omega.{arith}
 use borrow.Author.Tests.{eqb-true, eq-eqb, leb-true, le-leb, not-true}
@@ -87,3 +88,36 @@ module _ (p : ℕ) (two : 2 ≤ p) where
 
   pub least-divisor-prime : leastDivisor p ≡ p → Prime p
   least-divisor-prime e = record { two = two; only = λ d h l. least-divisor-least d h (omega arith) }
+
+  -- a divisor with none below it is the least
+  pub least-divisor-is : (d : ℕ) → 2 ≤ d → d ∣ p → ((e : ℕ) → 2 ≤ e → e < d → ¬ (e ∣ p)) → leastDivisor p ≡ d
+  least-divisor-is d h v none = go (eq-or-lt-of-le (least-divisor-below d h v))
+    where
+      go : (leastDivisor p ≡ d) ⊎ (leastDivisor p < d) → leastDivisor p ≡ d
+      go (inl e) = e
+      go (inr l) = absurd (none (leastDivisor p) (least-divisor-range .0) l least-divisor-divides)
+
+  -- and where there is none up to the square root, it is p
+  pub least-divisor-root : (d : ℕ) → p < d * d → ((e : ℕ) → 2 ≤ e → e < d → ¬ (e ∣ p)) → leastDivisor p ≡ p
+  least-divisor-root d h none = go (p / l) (div-mul-cancel l least-divisor-divides)
+    where
+      l : ℕ
+      l = leastDivisor p
+
+      high : (e : ℕ) → 2 ≤ e → e ∣ p → d ≤ e
+      high e k v = pick (decLe d e)
+        where
+          pick : Dec (d ≤ e) → d ≤ e
+          pick (yes u) = u
+          pick (no u) = absurd (none e k (omega arith) v)
+
+      go : (k : ℕ) → k * l ≡ p → l ≡ p
+      go zero q = absurd (omega (arith, zero-mul l))
+      go (suc zero) q = sym (one-mul l) ∙ q
+      go (suc (suc k)) q =
+          let v : suc (suc k) ∣ p = subst (λ (x : ℕ). suc (suc k) ∣ x) q (dvd-mul-right (suc (suc k)) l) in
+          absurd (omega (
+            arith,
+            q,
+            mul-le-mul (high (suc (suc k)) (omega arith) v) (high l (least-divisor-range .0) least-divisor-divides),
+          ))

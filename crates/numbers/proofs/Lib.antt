@@ -1,0 +1,3 @@
+-- Laws of the crate's definitions.
+pub mod Limit
+pub mod Rules

@@ -1,0 +1,2 @@
+-- p, n and pⁿ.
+pub mod Modulus

@@ -1,0 +1,33 @@
+-- The rules on p and n (01, "When the solver declines").
+use mathlib.Core.Bool.{true, false, not, _||_}
+use mathlib.Core.List.{[], _∷_}
+use Prim.Native.Nat.{ℕ, _^_}
+use lib.Dec.{eqb, ltb}
+use Rattle.theory.specs.Prime.{isPrime}
+use Rattle.refusal.specs.declared.Refusal.the-variants.{NotPrime, Precision}
+use Rattle.refusal.specs.Rules.{Verdict, passes, refuses, rule, tried}
+use Rattle.numbers.specs.declared.Power.{Power}
+use Rattle.numbers.specs.declared.Power.the-variants.{Within, Over}
+use Rattle.numbers.specs.declared.Modulus.{Modulus}
+use Rattle.numbers.specs.declared.Modulus.the-variants.{Accepted, Refused}
+
+-- pⁿ, or that it is over 4,294,967,295
+unfoldable pub powerOf : ℕ → ℕ → Power
+powerOf p n = elim (ltb 4294967295 (p ^ n)) [ true ↦ Over | false ↦ Within (p ^ n) ]
+
+-- "4. p is below 2, above 65,535 or not prime."
+unfoldable pub rule4 : ℕ → Verdict
+rule4 p = rule (ltb p 2 || ltb 65535 p || not (isPrime p)) NotPrime
+
+-- "5. n is 0 or pⁿ exceeds 4,294,967,295."
+unfoldable pub rule5 : ℕ → ℕ → Verdict
+rule5 p n = rule (eqb n 0 || ltb 4294967295 (p ^ n)) Precision
+
+-- pⁿ, or the refusal
+abbrev pub powerOr : Verdict → ℕ → Modulus
+powerOr passes m = Accepted m
+powerOr (refuses r) m = Refused r
+
+unfoldable pub modulusOf : ℕ → ℕ → Modulus
+unfolding rule4 rule5
+modulusOf p n = powerOr (tried (rule4 p ∷ rule5 p n ∷ [])) (p ^ n)

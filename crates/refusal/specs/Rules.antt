@@ -1,0 +1,46 @@
+-- The rules of 01's "When the solver declines" that are tests on numbers, and how rules are tried.
+use mathlib.Core.Bool.{Bool, true, false, not, _&&_}
+use mathlib.Core.List.{List, [], _∷_}
+use Prim.Native.Nat.{ℕ, min}
+use lib.Dec.{eqb, ltb, leb}
+use Rattle.refusal.specs.declared.Refusal.{Refusal}
+use Rattle.refusal.specs.declared.Refusal.the-variants.{NoCoefficient, TooManyCoefficients, Lengths, Point, TooFewSlots}
+
+-- what a rule says of a call
+pub data Verdict : Type 0 where
+  passes : Verdict
+  refuses : Refusal → Verdict
+
+-- a rule that refuses where it applies
+abbrev pub rule : Bool → Refusal → Verdict
+rule true r = refuses r
+rule false r = passes
+
+-- "The rules are tried by rising number, and the first that applies is the refusal"
+abbrev pub tried : List Verdict → Verdict
+tried [] = passes
+tried (passes ∷ rules) = tried rules
+tried (refuses r ∷ rules) = refuses r
+
+-- "2. There is no coefficient."
+abbrev pub rule2 : ℕ → Verdict
+rule2 count = rule (eqb count 0) NoCoefficient
+
+-- "3. There are more than 65 coefficients."
+abbrev pub rule3 : ℕ → Verdict
+rule3 count = rule (ltb 65 count) TooManyCoefficients
+
+-- "6. The lists differ in length; the place is the shortest length.", for two lists and for three
+abbrev pub rule6 : ℕ → ℕ → Verdict
+rule6 a b = rule (not (eqb a b)) (Lengths (min a b))
+
+abbrev pub rule6Three : ℕ → ℕ → ℕ → Verdict
+rule6Three a b c = rule (not (eqb a b && eqb a c)) (Lengths (min a (min b c)))
+
+-- "8. The point is not below pⁿ."
+abbrev pub rule8 : ℕ → ℕ → Verdict
+rule8 point modulus = rule (leb modulus point) Point
+
+-- "11. The solver's lists have fewer than k slots; the place is k."
+abbrev pub rule11 : ℕ → ℕ → Verdict
+rule11 slots k = rule (ltb slots k) (TooFewSlots k)
