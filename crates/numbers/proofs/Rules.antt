@@ -102,3 +102,7 @@ module _ (p n : ℕ) where
       go false false f g =
           let z : _≡_ {A = ℕ} 0 1 = cc (modulus-passes p n (is-prime p f) (is-precise p n g)) in
           absurd (omega arith)
+
+-- and how p and n that pass let the others speak
+pub usable-leads : (p n m : ℕ) → Usable p n m → (rest : List Verdict) → tried (rule4 p ∷ rule5 p n ∷ rest) ≡ tried rest
+usable-leads p n m U rest = rw (U .passes4, U .passes5)

@@ -1,10 +1,11 @@
 -- The rules of 01's "When the solver declines" that are tests on numbers, and how rules are tried.
 use mathlib.Core.Bool.{Bool, true, false, not, _&&_}
 use mathlib.Core.List.{List, [], _∷_}
-use Prim.Native.Nat.{ℕ, min}
+use Prim.Native.Nat.{ℕ, _+_, _*_, min}
 use lib.Dec.{eqb, ltb, leb}
 use Rattle.refusal.specs.declared.Refusal.{Refusal}
-use Rattle.refusal.specs.declared.Refusal.the-variants.{NoCoefficient, TooManyCoefficients, Lengths, Point, TooFewSlots}
+use Rattle.refusal.specs.declared.Refusal.the-variants.{NoCoefficient, TooManyCoefficients, Lengths, Point, MapTooLarge, MapLength}
+use Rattle.refusal.specs.declared.Refusal.the-variants.{TooFewSlots, BufferTooSmall}
 
 -- what a rule says of a call
 pub data Verdict : Type 0 where
@@ -41,6 +42,18 @@ rule6Three a b c = rule (not (eqb a b && eqb a c)) (Lengths (min a (min b c)))
 abbrev pub rule8 : ℕ → ℕ → Verdict
 rule8 point modulus = rule (leb modulus point) Point
 
+-- "9. A map or a map's count is asked for with pⁿ above 524,288."
+abbrev pub rule9 : ℕ → Verdict
+rule9 modulus = rule (ltb 524288 modulus) MapTooLarge
+
+-- "10. The map's length is not pⁿ / 8 rounded up."
+abbrev pub rule10 : ℕ → ℕ → Verdict
+rule10 bytes wanted = rule (not (eqb bytes wanted)) MapLength
+
 -- "11. The solver's lists have fewer than k slots; the place is k."
 abbrev pub rule11 : ℕ → ℕ → Verdict
 rule11 slots k = rule (ltb slots k) (TooFewSlots k)
+
+-- "12. The writer's buffer has fewer than 45 × (k + 1) bytes; the place is that number."
+abbrev pub rule12 : ℕ → ℕ → Verdict
+rule12 bytes k = rule (ltb bytes (45 * (k + 1))) (BufferTooSmall (45 * (k + 1)))

@@ -3,6 +3,7 @@ pub mod Tests
 pub mod Lists
 pub mod Numbers
 pub mod Range
+pub mod Passing
 pub mod Classes
 pub mod Polynomials
 pub mod RootMap

@@ -6,3 +6,4 @@ pub mod Permutation
 pub mod Pigeonhole
 pub mod Index
 pub mod Minimum
+pub mod Fill

@@ -6,7 +6,9 @@ pub mod Zeros
 pub mod Quotient
 pub mod Orders
 pub mod Bound
+pub mod Lagrange
 pub mod Highest
 pub mod Degree
 pub mod Roots
 pub mod Signed
+pub mod Derivative

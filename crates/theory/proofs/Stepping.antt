@@ -36,11 +36,11 @@ passing-rest f (suc k) i x xs e = go (passing-rest f k (suc i) x xs) (f i) refl
 
 -- The answers
 
-next-refused : (S : ℕ → Bool) (p n q : ℕ) → p ^ n ≤ q → nextIn S p n q ≡ refused 8 0
+pub next-refused : (S : ℕ → Bool) (p n q : ℕ) → p ^ n ≤ q → nextIn S p n q ≡ refused 8 0
 unfolding nextIn
 next-refused S p n q h = rw (le-ltb q (p ^ n) h, nextIn)
 
-next-first : (S : ℕ → Bool) (p n q : ℕ) → q < p ^ n → nextIn S p n q ≡ firstOf (from S p n q)
+pub next-first : (S : ℕ → Bool) (p n q : ℕ) → q < p ^ n → nextIn S p n q ≡ firstOf (from S p n q)
 unfolding nextIn
 next-first S p n q h = rw (lt-ltb q (p ^ n) h, nextIn)
 

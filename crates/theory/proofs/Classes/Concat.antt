@@ -1,10 +1,14 @@
 -- Lists of classes that are put one after the other.
-use mathlib.Core.Path.{_≡_}
+use mathlib.Core.Path.{refl, sym, _∙_, ap, _≡_}
 use mathlib.Core.Logic.{_⊎_, inl, inr}
-use mathlib.Core.List.{List, _++_}
-use Prim.Native.Nat.{ℕ, zero, suc, _<_}
+use mathlib.Core.List.{append-assoc, append-nil, [], _∷_, List, _++_}
+use Prim.Native.Nat.{_+_, ℕ, zero, suc, _<_}
 use native.Mathlib.Nat.{eq-or-lt-of-le}
 use native.Mathlib.Omega.{arith}
+use mathlib.Core.Bool.{Bool, true, false}
+use native.Mathlib.Numerals.{add-one}
+use Rattle.theory.proofs.Passing.{passing-next-off, passing-next-on}
+use Rattle.theory.specs.Range.{passing}
 use Rattle.theory.specs.Lists.{In}
 use Rattle.theory.specs.Class.{Class}
 use Rattle.theory.specs.Tree.{concatBelow}
@@ -39,3 +43,36 @@ no-repeat-concat f (suc k) each apart =
     (no-repeat-concat f k (λ c l. each c (omega arith)) (λ c d e l l′ u v. apart c d e (omega arith) (omega arith) u v))
     (each k (omega arith))
     (λ e u v. let (c, l, w) = in-concat f k e u in omega (arith, apart c k e (omega arith) (omega arith) w v))
+
+-- the lists of the given digits, one after the other
+unfoldable pub flat : (ℕ → List Class) → List ℕ → List Class
+flat f [] = []
+flat f (c ∷ l) = f c ++ flat f l
+
+pub flat-next : (f : ℕ → List Class) (l : List ℕ) (c : ℕ) → flat f (l ++ (c ∷ [])) ≡ flat f l ++ f c
+unfolding flat
+flat-next f [] c = append-nil (f c)
+flat-next f (x ∷ l) c = ap (λ r. f x ++ r) (flat-next f l c) ∙ sym (append-assoc (f x) (flat f l) (f c))
+
+-- digits that fail the test may be left out where their lists are empty
+pub concat-passing : (f : ℕ → List Class) (test : ℕ → Bool) (k : ℕ) → ((c : ℕ) → c < k → test c ≡ false → f c ≡ [])
+    → concatBelow f k ≡ flat f (passing test k 0)
+unfolding concatBelow flat passing
+concat-passing f test zero none = refl
+concat-passing f test (suc k) none = go (concat-passing f test k (λ c h e. none c (omega arith) e)) (test k) refl
+  where
+    one : suc k ≡ k + 1
+    one = sym (add-one k)
+
+    go : concatBelow f k ≡ flat f (passing test k 0) → (b : Bool) → test k ≡ b → concatBelow f k ++ f k ≡ flat f (passing test (suc k) 0)
+    go ih true e =
+        ap (λ r. r ++ f k) ih
+        ∙ sym (flat-next f (passing test k 0) k)
+        ∙ ap (flat f) (sym (passing-next-on test k e))
+        ∙ ap (λ (j : ℕ). flat f (passing test j 0)) (sym one)
+    go ih false e =
+        ap (λ r. concatBelow f k ++ r) (none k (omega arith) e)
+        ∙ append-nil (concatBelow f k)
+        ∙ ih
+        ∙ ap (flat f) (sym (passing-next-off test k e))
+        ∙ ap (λ (j : ℕ). flat f (passing test j 0)) (sym one)

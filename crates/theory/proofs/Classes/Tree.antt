@@ -21,7 +21,7 @@ use Rattle.theory.proofs.Lists.Map.{in-map, map-in}
 use Rattle.theory.proofs.Lists.NoRepeat.{NoRepeat, no-repeat-map}
 use Rattle.theory.proofs.Lists.Pigeonhole.{pigeonhole}
 use Rattle.theory.proofs.Numbers.Power.{pow-pos}
-use Rattle.theory.proofs.Range.{all-intro}
+use Rattle.theory.proofs.Range.{all-elim, all-intro}
 use Rattle.theory.proofs.Classes.Concat.{in-concat, concat-in, no-repeat-concat}
 use Rattle.theory.proofs.Classes.Equal.{class-equal}
 use Rattle.theory.proofs.Classes.Whole.{whole-elim}
@@ -249,3 +249,31 @@ module _ (p : ℕ) (hp : 0 < p) where
       rival-as-long-is-shortest S p n hp (tree S p n) (tree-rival S n) two
       (le-antisymm (rival-at-least-as-long S p n hp (tree S p n) (tree-rival S n))
       (pigeonhole (λ (e : Class). e) (tree S p n) (shortest S p n) (tree-no-repeat S n) (λ e m. (e, entry-listed S n e m, refl))))
+
+-- Digit by digit
+
+-- all of S is there exactly if all below each digit is
+pub all-digits : (S : ℕ → Bool) (p l : ℕ) → 0 < p → ((c : ℕ) → c < p → allBelow (branch S p c) (p ^ l) ≡ true) → allBelow S (p ^ suc l) ≡
+    true
+all-digits S p l hp h =
+    all-intro S (p ^ suc l) (λ r u.
+    let digits : r % p + p * (r / p) ≡ r = omega (arith, div-add-mod r p) in
+    rw digits at (all-elim (branch S p (r % p)) (p ^ l) (r / p) (h (r % p) (mod-lt r hp))
+    (div-lt-iff-lt-mul hp .1 (rw (pow-suc p l) at u))))
+
+pub digit-all : (S : ℕ → Bool) (p l c : ℕ) → allBelow S (p ^ suc l) ≡ true → c < p → allBelow (branch S p c) (p ^ l) ≡ true
+digit-all S p l c h u =
+    all-intro (branch S p c) (p ^ l) (λ y w. all-elim S (p ^ suc l) (c + p * y) h (omega (arith, pow-succ' p l, mul-le-mul-left p w)))
+
+-- a set with no element has no class
+pub tree-empty : (S : ℕ → Bool) (p l : ℕ) → 0 < p → ((y : ℕ) → S y ≡ false) → tree S p l ≡ []
+tree-empty S p l hp none = go (tree S p l) refl
+  where
+    go : (t : List Class) → tree S p l ≡ t → tree S p l ≡ []
+    go [] e = e
+    go (e₀ ∷ t) e =
+        let m : In e₀ (tree S p l) = rw e (here refl) in
+        let k = entries p hp S l e₀ m in
+        absurd (contradiction
+        (whole-elim S p l hp e₀ (k .is-class .level-fits) (k .whole) (e₀ .residue) (own-member p l hp e₀ (k .is-class)))
+        (none (e₀ .residue)))

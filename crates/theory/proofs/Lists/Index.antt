@@ -13,6 +13,10 @@ in-at [] i d h = absurd (omega arith)
 in-at (x ∷ l) zero d h = here refl
 in-at (x ∷ l) (suc i) d h = there (in-at l i d (omega arith))
 
+pub index-of : {A : Type 0} (l : List A) (d x : A) → In x l → (i : ℕ) × (i < length l) × (x ≡ getD l i d)
+index-of (y ∷ l) d x (here e) = (0, omega arith, e)
+index-of (y ∷ l) d x (there u) = let (i, h, e) = index-of l d x u in (suc i, omega arith, e)
+
 -- where no entry is repeated, equal entries stand at one index
 pub same-index : {A : Type 0} (l : List A) (d : A) → NoRepeat l → (i j : ℕ) → i < length l → j < length l → getD l i d ≡ getD l j d → i ≡ j
 same-index [] d nr i j hi hj e = absurd (omega arith)

@@ -1,17 +1,19 @@
 -- Valuations: p^k divides x exactly if k is at most the valuation of x.
-use mathlib.Core.Path.{_≡_, refl, sym, subst}
+use mathlib.Core.Path.{_∙_, ap, _≡_, refl, sym, subst}
 use mathlib.Core.Bool.{Bool, true, false}
-use Prim.Native.Nat.{ℕ, zero, suc, _*_, _/_, _^_, _≤_, _<_, _∣_}
+use Prim.Native.Nat.{ℕ, zero, suc, _*_, _/_, _^_, _≤_, _<_, _∣_, _%_}
 use native.Mathlib.Nat.{mul-zero, mul-le-mul-right, one-dvd, dvd-trans, mul-dvd-mul-left, dvd-of-mul-dvd-mul-left, mul-div-cancel'}
 use native.Mathlib.Nat.{div-lt-iff-lt-mul, pow-zero}
 use native.Mathlib.Nat.{pow-suc, pow-succ', le-antisymm}
+use native.Mathlib.Nat.{dvd-of-mod-eq-zero, mod-eq-zero-of-dvd}
 use native.Mathlib.Decide.{decLe}
 use native.Mathlib.Omega.{arith}
+use lib.Count.{trailingZeros, under}
 use Rattle.theory.specs.Prime.{divides}
 use Rattle.theory.specs.Degree.{divisions, valuation}
 use Rattle.theory.proofs.Numbers.Power.{pow-dvd, pow-one}
 use Rattle.theory.proofs.Numbers.Prime.{divides-dvd, dvd-divides}
-use Rattle.theory.proofs.Tests.{contradiction}
+use Rattle.theory.proofs.Tests.{contradiction, not-holding}
 
 divisions-on : (k p x : ℕ) → divides p x ≡ true → divisions (suc k) p x ≡ suc (divisions k p (x / p))
 unfolding divisions
@@ -58,7 +60,8 @@ divisions-most (suc k) p x hp h l d = go (divisions-most k p (x / p) hp) (divide
         positive (suc y) q = omega arith
     go ih false e = contradiction (dvd-divides p x (rw (divisions-off k p x e, pow-one p) at d)) e
 
-below-power : (p x : ℕ) → 2 ≤ p → x < p ^ x
+-- x is below p^x
+pub below-power : (p x : ℕ) → 2 ≤ p → x < p ^ x
 below-power p zero two = rw (pow-zero p) (omega arith)
 below-power p (suc x) two = omega (arith, pow-succ' p x, below-power p x two, mul-le-mul-right (p ^ x) two)
 
@@ -85,3 +88,24 @@ module _ (p : ℕ) (two : 2 ≤ p) where
       go : Dec (valuation p x ≤ v) → valuation p x ≤ v
       go (yes l) = l
       go (no l) = absurd (f (dvd-trans (p ^ suc v) (pow-dvd p (omega arith)) (valuation-dvd x)))
+
+-- For p = 2
+
+trailing-divisions : (f g n : ℕ) → 0 < n → n < 2 ^ f → n ≤ g → trailingZeros f n ≡ divisions g 2 n
+unfolding trailingZeros
+trailing-divisions zero g n p h l = absurd (omega arith)
+trailing-divisions (suc f) zero n p h l = absurd (omega arith)
+trailing-divisions (suc f) (suc g) n p h l = go (trailing-divisions f g (n / 2)) (n % 2) refl
+  where
+    go : (0 < n / 2 → n / 2 < 2 ^ f → n / 2 ≤ g → trailingZeros f (n / 2) ≡ divisions g 2 (n / 2))
+        → (d : ℕ) → n % 2 ≡ d → under (n % 2) (trailingZeros f (n / 2)) ≡ divisions (suc g) 2 n
+    go ih zero e =
+        let b : n < 2 ^ f * 2 = rw (pow-suc 2 f) at h in
+        rw e (ap suc (ih (omega arith) (omega arith) (omega arith)) ∙ sym (divisions-on g 2 n (dvd-divides 2 n (dvd-of-mod-eq-zero 2 e))))
+    go ih (suc d) e =
+        rw e (sym (divisions-off g 2 n (not-holding (divides 2 n) (λ w. omega (arith, mod-eq-zero-of-dvd 2 (divides-dvd 2 n w))))))
+
+-- "for p = 2 that is its number of trailing zero bits"
+pub trailing-zeros : (x : ℕ) → 0 < x → x < 2 ^ 64 → trailingZeros 64 x ≡ valuation 2 x
+unfolding valuation
+trailing-zeros x h l = trailing-divisions 64 x x h l (omega arith)

@@ -1,6 +1,6 @@
 -- Sums and multiples of polynomials, by coefficients and by values.
-use mathlib.Core.Path.{_≡_, refl, sym, ap₂, _∙_}
-use mathlib.Core.List.{List, [], _∷_}
+use mathlib.Core.Path.{ap, _≡_, refl, sym, ap₂, _∙_}
+use mathlib.Core.List.{map, List, [], _∷_}
 use Prim.Native.Nat.{ℕ, zero, suc, _+_, _*_, _/_, _^_, _∣_}
 use native.Mathlib.Nat.{zero-add, add-zero, mul-zero, pow-zero, pow-succ', dvd-zero, dvd-add, dvd-mul-left-of-dvd, mul-div-cancel'}
 use native.Mathlib.Omega.{arith}
@@ -88,3 +88,8 @@ pub scale-divided : (q : ℕ) (f : List ℕ) → ((i : ℕ) → q ∣ coef f i) 
 unfolding divided scale
 scale-divided q [] h = refl
 scale-divided q (a ∷ f) h = ap₂ (λ x xs. x ∷ xs) (mul-div-cancel' q (h 0)) (scale-divided q f (λ i. h (suc i)))
+
+pub divided-map : (q : ℕ) (f : List ℕ) → divided q f ≡ map (λ (a : ℕ). a / q) f
+unfolding divided
+divided-map q [] = refl
+divided-map q (a ∷ f) = ap (λ xs. a / q ∷ xs) (divided-map q f)

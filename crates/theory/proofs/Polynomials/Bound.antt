@@ -154,3 +154,7 @@ module _ (p : ℕ) (P : Prime p) where
   -- for any s < e: where p^(s + 1) does not divide the coefficient of index d and divides all above it, there are at most d classes
   pub tree-at-most : (e l s d : ℕ) (f : List ℕ) → s < e → Degree (p ^ suc s) f d → length (tree (zeros f p e) p l) ≤ d
   tree-at-most e l s d f h D = bound l s e f d D (λ z. h)
+
+  -- the classes below a digit are no more than the order there
+  pub below-at-most-order : (e l : ℕ) (f : List ℕ) (c : ℕ) → 0 < e → AtMostOrder p (length (below (zeros f p e) p l c)) (taylor c f)
+  below-at-most-order e l f c h = below-order l (bound l) e f c h

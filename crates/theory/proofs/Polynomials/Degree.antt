@@ -57,9 +57,13 @@ in-nonzero (b ∷ f) a u = go (in-nonzero f a) (eqb b 0) refl
         pick (inr w) = up (ih w)
 
 module _ (p : ℕ) (two : 2 ≤ p) (f : List ℕ) where
+  pub least-valuation-le : (a : ℕ) → In a f → 0 < a → leastValuation p f ≤ valuation p a
+  unfolding leastValuation
+  least-valuation-le a u h =
+      minimum-le (map (valuation p) (nonzero f)) (valuation p a) (map-in (valuation p) (nonzero f) a (nonzero-in f a u h))
+
   -- p^s divides every coefficient
   pub least-valuation-dvd : (i : ℕ) → p ^ leastValuation p f ∣ coef f i
-  unfolding leastValuation
   least-valuation-dvd i = go (eq-zero-or-pos (coef f i)) (coef-in f i)
     where
       go : (coef f i ≡ 0) ⊎ (0 < coef f i) → (coef f i ≡ 0) ⊎ In (coef f i) f → p ^ leastValuation p f ∣ coef f i
@@ -67,8 +71,7 @@ module _ (p : ℕ) (two : 2 ≤ p) (f : List ℕ) where
       go (inr h) (inl e) = rw e (dvd-zero (p ^ leastValuation p f))
       go (inr h) (inr u) =
           let a = coef f i in
-          let l : leastValuation p f ≤ valuation p a =
-          minimum-le (map (valuation p) (nonzero f)) (valuation p a) (map-in (valuation p) (nonzero f) a (nonzero-in f a u h)) in
+          let l = least-valuation-le a u h in
           dvd-trans (p ^ leastValuation p f) (pow-dvd p l) (valuation-dvd p two a)
 
   -- divided by p^s it is a multiple of p exactly if p^(s + 1) divides it
@@ -87,7 +90,7 @@ module _ (p : ℕ) (two : 2 ≤ p) (f : List ℕ) where
 
   module _ (some-left : allZero f ≡ false) where
     -- s is attained
-    attained : (a : ℕ) × In a f × (0 < a) × (valuation p a ≡ leastValuation p f)
+    pub attained : (a : ℕ) × In a f × (0 < a) × (valuation p a ≡ leastValuation p f)
     unfolding leastValuation
     attained =
         let (b, u, h) = not-all-zero f some-left in
@@ -96,11 +99,18 @@ module _ (p : ℕ) (two : 2 ≤ p) (f : List ℕ) where
         let w = in-nonzero f a v in
         (a, w .0, w .1, sym e)
 
-    abbrev test : ℕ → Bool
+    -- a number that is at most each valuation and is one of them is s
+    pub least-valuation-is : (v : ℕ) → ((a : ℕ) → In a f → 0 < a → v ≤ valuation p a)
+        → (a : ℕ) → In a f → 0 < a → valuation p a ≡ v → v ≡ leastValuation p f
+    least-valuation-is v below a u h e =
+        let (b, w, k, q) = attained in
+        omega (arith, below b w k, least-valuation-le a u h)
+
+    abbrev pub test : ℕ → Bool
     test a = not (divides p (a / p ^ leastValuation p f))
 
     -- p^(s + 1) does not divide the coefficient at which s is attained
-    some-passes : some test f ≡ true
+    pub some-passes : some test f ≡ true
     some-passes =
         let (a, u, h, e) = attained in
         let q = p ^ leastValuation p f in

@@ -8,6 +8,8 @@ use native.Mathlib.Omega.{arith}
 use borrow.Author.Tests.{eqb-true, eqb-false, not-true, not-false}
 use lib.Dec.{eqb}
 use lib.ListN.{length}
+use native.Mathlib.Decide.{decLt}
+use Rattle.theory.proofs.Lists.Index.{index-of}
 use Rattle.theory.specs.Lists.{In, here, there}
 use Rattle.theory.specs.Degree.{some, highest, allZero}
 use Rattle.theory.proofs.Tests.{contradiction, not-holding, or-cases, or-left, or-right}
@@ -83,6 +85,32 @@ highest-lt test (a ∷ f) e = go (highest-lt test f) (some test f) refl
     go ih true q = omega (arith, ih q, highest-on test a f q)
     go ih false q = omega (arith, highest-off test a f q)
 
+-- a coefficient that passes is an entry, where 0 does not pass
+pub some-coef : (test : ℕ → Bool) (f : List ℕ) → test 0 ≡ false → (i : ℕ) → test (coef f i) ≡ true → some test f ≡ true
+some-coef test f z i e = go (coef-in f i)
+  where
+    go : (coef f i ≡ 0) ⊎ In (coef f i) f → some test f ≡ true
+    go (inl q) = absurd (contradiction e (ap test q ∙ z))
+    go (inr u) = some-in test f (coef f i) u e
+
+-- the highest is told by what passes
+pub highest-is : (test : ℕ → Bool) (f : List ℕ) → test 0 ≡ false → (i : ℕ) → test (coef f i) ≡ true
+    → ((j : ℕ) → i < j → test (coef f j) ≡ false) → highest test f ≡ i
+highest-is test f z i e above = go (decLt (highest test f) i) (decLt i (highest test f))
+  where
+    go : Dec (highest test f < i) → Dec (i < highest test f) → highest test f ≡ i
+    go (yes l) w = absurd (contradiction e (above-highest test f z i l))
+    go (no l) (yes k) = absurd (contradiction (highest-passes test f (some-coef test f z i e)) (above (highest test f) k))
+    go (no l) (no k) = omega arith
+
+pub highest-none : (test : ℕ → Bool) (f : List ℕ) → ((i : ℕ) → test (coef f i) ≡ false) → highest test f ≡ 0
+unfolding highest
+highest-none test [] h = refl
+highest-none test (a ∷ f) h = highest-off test a f (not-holding (some test f) (λ e.
+    let (x, u, w) = in-some test f e in
+    let (i, l, q) = index-of f 0 x u in
+    contradiction w (ap test q ∙ h (suc i))))
+
 -- All coefficients zero
 
 pub all-zero-coef : (f : List ℕ) → allZero f ≡ true → (i : ℕ) → coef f i ≡ 0
@@ -99,3 +127,14 @@ not-all-zero f e =
   where
     positive : (a : ℕ) → (a ≡ 0 → ⊥) → 0 < a
     positive a h = omega arith
+
+pub all-zero-intro : (f : List ℕ) → ((i : ℕ) → coef f i ≡ 0) → allZero f ≡ true
+unfolding allZero
+all-zero-intro f h =
+    ap not (not-holding (some (λ a. not (eqb a 0)) f) (λ e.
+    let (x, u, w) = in-some (λ a. not (eqb a 0)) f e in
+    let (i, l, q) = index-of f 0 x u in
+    eqb-false x 0 (not-true (eqb x 0) w) (q ∙ h i)))
+
+pub all-zero-fails : (f : List ℕ) (i : ℕ) → (coef f i ≡ 0 → ⊥) → allZero f ≡ false
+all-zero-fails f i h = not-holding (allZero f) (λ e. h (all-zero-coef f e i))

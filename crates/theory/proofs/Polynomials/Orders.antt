@@ -1,5 +1,5 @@
 -- The orders of a polynomial at the p digits: together at most its degree modulo p.
-use mathlib.Core.Path.{_≡_}
+use mathlib.Core.Path.{refl, ap₂, _≡_}
 use mathlib.Core.List.{List}
 use Prim.Native.Nat.{ℕ, zero, suc, pred, _+_, _-_, _≤_, _<_, _∣_}
 use native.Mathlib.Nat.{dvd-add-iff-right, add-zero}
@@ -16,6 +16,23 @@ use Rattle.theory.proofs.Polynomials.Quotient.{quotient, quotient-zero,
 unfoldable pub sumFrom : (ℕ → ℕ) → ℕ → ℕ → ℕ
 sumFrom f c zero = 0
 sumFrom f c (suc k) = f c + sumFrom f (suc c) k
+
+pub sum-append : (f : ℕ → ℕ) (j k c : ℕ) → sumFrom f c (j + k) ≡ sumFrom f c j + sumFrom f (c + j) k
+unfolding sumFrom
+sum-append f zero k c =
+    let e : 0 + k ≡ k = omega arith in
+    let z : c + 0 ≡ c = omega arith in
+    rw (e, z) (omega arith)
+sum-append f (suc j) k c =
+    let e : suc j + k ≡ suc (j + k) = omega arith in
+    let z : suc c + j ≡ c + suc j = omega arith in
+    rw (e, ← z) (omega (arith, sum-append f j k (suc c)))
+
+pub sum-same : (f g : ℕ → ℕ) (k c : ℕ) → ((x : ℕ) → c ≤ x → x < c + k → f x ≡ g x) → sumFrom f c k ≡ sumFrom g c k
+unfolding sumFrom
+sum-same f g zero c h = refl
+sum-same f g (suc k) c h =
+    ap₂ (λ (x y : ℕ). x + y) (h c (omega arith) (omega arith)) (sum-same f g k (suc c) (λ x l b. h x (omega arith) (omega arith)))
 
 -- n is at most the index of each coefficient of f that p does not divide, so at most the order of f modulo p
 abbrev pub AtMostOrder : ℕ → ℕ → List ℕ → Type 0

@@ -1,8 +1,9 @@
 -- Taylor's expansion, as an exact equation of values.
 use mathlib.Core.Path.{_≡_, refl, _∙_}
 use mathlib.Core.List.{List, [], _∷_}
-use Prim.Native.Nat.{ℕ, suc, _+_, _*_}
+use Prim.Native.Nat.{ℕ, suc, _+_, _*_, _≤_}
 use native.Mathlib.Omega.{arith}
+use lib.ListN.{length}
 use Rattle.theory.specs.Polynomial.{value}
 use Rattle.theory.proofs.Polynomials.Arithmetic.{coef, plus, scale, stretch}
 use Rattle.theory.proofs.Polynomials.Arithmetic.{value-plus, value-scale, value-stretch, coef-plus, coef-scale}
@@ -27,6 +28,13 @@ pub taylor-suc : (c a : ℕ) (f : List ℕ) (i : ℕ)
     → coef (taylor c (a ∷ f)) (suc i) ≡ coef (taylor c f) i + c * coef (taylor c f) (suc i)
 unfolding taylor
 taylor-suc c a f i = coef-plus (a ∷ taylor c f) (scale c (taylor c f)) (suc i) ∙ rw (coef-scale c (taylor c f) (suc i))
+
+-- it is as long as f
+pub taylor-beyond : (c : ℕ) (f : List ℕ) (i : ℕ) → length f ≤ i → coef (taylor c f) i ≡ 0
+unfolding taylor
+taylor-beyond c [] i h = refl
+taylor-beyond c (a ∷ f) (suc i) h =
+    taylor-suc c a f i ∙ rw (taylor-beyond c f i (omega arith), taylor-beyond c f (suc i) (omega arith)) (omega arith)
 
 -- f(a + q·y)
 abbrev pub shifted : ℕ → ℕ → List ℕ → List ℕ

@@ -1,0 +1,2 @@
+-- What a column of the text holds for a number.
+pub mod Column

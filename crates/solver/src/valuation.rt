@@ -1,0 +1,82 @@
+// Valuations: how many times p divides a number.
+ghost use mathlib.Core.Path.{_≡_};
+ghost use mathlib.Core.Bool.{false};
+ghost use Prim.Native.Nat.{_^_, _≤_, _<_};
+ghost use lib.ListN.{take};
+ghost use Rattle.theory.specs.Degree.{valuation as valuationOf, leastValuation, allZero};
+ghost use Rattle.solver.specs.Table.{Below, lowerOf};
+
+// The valuation for p = 2 is the number of trailing zero bits.
+fn valuation_two(x: u64) -> u64
+    requires { ⌜ 0 < x ⌝ }
+    ensures { λ r. ⌜ r ≡ valuationOf 2 x ⌝ }
+{
+    u64::trailing_zeros(x) as u64
+}
+
+// For any p: repeated division.
+fn valuation_any(x: u64, p: u64) -> u64
+    requires { ⌜ (0 < x) × (2 ≤ p) ⌝ }
+    ensures { λ r. ⌜ r ≡ valuationOf p x ⌝ }
+{
+    let mut y = x;
+    let mut v: u64 = 0;
+    while y % p == 0 {
+        y = y / p;
+        v += 1;
+    }
+    v
+}
+
+fn valuation(x: u64, p: u64) -> u64
+    requires { ⌜ (0 < x) × (2 ≤ p) ⌝ }
+    ensures { λ r. ⌜ r ≡ valuationOf p x ⌝ }
+{
+    if p == 2 {
+        return valuation_two(x);
+    }
+    valuation_any(x, p)
+}
+
+// The smaller of `best` and the valuation of x, where x is not 0.
+fn lower(best: u64, x: u64, p: u64) -> u64
+    requires { ⌜ 2 ≤ p ⌝ }
+    ensures { λ r. ⌜ r ≡ lowerOf p best x ⌝ }
+{
+    if x == 0 {
+        return best;
+    }
+    let v = valuation(x, p);
+    if v < best {
+        return v;
+    }
+    best
+}
+
+// The least valuation of the nonzero coefficients.
+pub(crate) fn least_valuation(g: [u64; 65], len: usize, p: u64) -> u64
+    requires { ⌜ (len ≤ 65) × (2 ≤ p) × Below 4294967296 (take len g) × (allZero (take len g) ≡ false) ⌝ }
+    ensures { λ r. ⌜ r ≡ leastValuation p (take len g) ⌝ }
+{
+    let mut best: u64 = 64;
+    let mut i: usize = 0;
+    while i < len {
+        best = lower(best, g[i], p);
+        i += 1;
+    }
+    best
+}
+
+// p^k
+pub(crate) fn power(p: u64, k: u64) -> u64
+    requires { ⌜ (0 < p) × (p ^ k ≤ 4294967295) ⌝ }
+    ensures { λ r. ⌜ r ≡ p ^ k ⌝ }
+{
+    let mut q: u64 = 1;
+    let mut i: u64 = 0;
+    while i < k {
+        q = q * p;
+        i += 1;
+    }
+    q
+}

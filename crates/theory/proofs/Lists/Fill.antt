@@ -1,0 +1,66 @@
+-- Lists that are filled from the front, one entry a step: what a loop that writes f of each entry of xs keeps true.
+use mathlib.Core.Path.{_≡_, sym, ap, ap₂, _∙_}
+use mathlib.Core.List.{List, [], _∷_, _++_, map}
+use Prim.Native.Nat.{ℕ, _+_, _-_, _≤_, _<_}
+use native.Mathlib.Numerals.{add-one}
+use native.Mathlib.Omega.{arith}
+use lib.ListN.{length, getD, take, drop, set, length-append, length-map, length-drop}
+use lib.Seq.{getD-set-other, getD-set-same, take-suc, take-suc-set, drop-cons, set-at, append-snoc, length-take-le}
+use native.Mathlib.Decide.{ℕ-discrete}
+use Rattle.theory.proofs.Lists.Map.{map-append}
+
+-- one entry more
+pub take-next : {A : Type 0} (l : List A) (i : ℕ) (d : A) → i < length l → take (i + 1) l ≡ take i l ++ (getD l i d ∷ [])
+take-next l i d h = ap (λ (k : ℕ). take k l) (add-one i) ∙ take-suc l i d h
+
+pub take-set-next : {A : Type 0} (l : List A) (i : ℕ) (v : A) → i < length l → take (i + 1) (set l i v) ≡ take i l ++ (v ∷ [])
+take-set-next l i v h = ap (λ (k : ℕ). take k (set l i v)) (add-one i) ∙ take-suc-set l i v h
+
+pub drop-next : {A : Type 0} (l : List A) (i : ℕ) (d : A) → i < length l → drop i l ≡ getD l i d ∷ drop (i + 1) l
+drop-next l i d h = drop-cons l i d h ∙ ap (λ (k : ℕ). getD l i d ∷ drop k l) (sym (add-one i))
+
+module _ {A B : Type 0} (f : A → B) (xs : List A) (i : ℕ) (d : A) (hx : i < length xs) where
+  map-take-next : map f (take (i + 1) xs) ≡ map f (take i xs) ++ (f (getD xs i d) ∷ [])
+  map-take-next = ap (map f) (take-next xs i d hx) ∙ map-append f (take i xs) (getD xs i d ∷ [])
+
+  -- the first i entries are f of xs, and the next is written
+  pub filled-next : (l : List B) (v : B) → i < length l → v ≡ f (getD xs i d) → take i l ≡ map f (take i xs)
+      → take (i + 1) (set l i v) ≡ map f (take (i + 1) xs)
+  filled-next l v hl e h = take-set-next l i v hl ∙ ap₂ (λ ys y. ys ++ (y ∷ [])) h e ∙ sym map-take-next
+
+  -- the same of a list that keeps the rest of l₀
+  pub written-next : (l₀ : List B) (b v : B) → i < length l₀ → v ≡ f (getD xs i d)
+      → set (map f (take i xs) ++ drop i l₀) i v ≡ map f (take (i + 1) xs) ++ drop (i + 1) l₀
+  written-next l₀ b v hl e =
+      let pre = map f (take i xs) in
+      let n : length pre ≡ i = length-map (take i xs) f ∙ length-take-le i xs (omega arith) in
+      ap (λ ys. set (pre ++ ys) i v) (drop-next l₀ i b hl)
+      ∙ set-at pre (getD l₀ i b) (drop (i + 1) l₀) v i n
+      ∙ ap (λ y. pre ++ y ∷ drop (i + 1) l₀) e
+      ∙ sym (append-snoc pre (f (getD xs i d)) (drop (i + 1) l₀))
+      ∙ ap (λ ys. ys ++ drop (i + 1) l₀) (sym map-take-next)
+
+-- such a list is as long as l₀
+pub written-length : {A B : Type 0} (f : A → B) (xs : List A) (l₀ : List B) (i : ℕ) → i ≤ length xs → i ≤ length l₀
+    → length (map f (take i xs) ++ drop i l₀) ≡ length l₀
+written-length f xs l₀ i hx hl =
+    length-append (map f (take i xs)) (drop i l₀)
+    ∙ rw (length-map (take i xs) f, length-take-le i xs hx, length-drop i l₀) (omega arith)
+
+-- the same, entry by entry: F is what stands at each index below i
+pub entry-next : {A : Type 0} (l : List A) (i : ℕ) (v d : A) (F : ℕ → A) → i < length l → v ≡ F i
+    → ((k : ℕ) → k < i → getD l k d ≡ F k) → (k : ℕ) → k < i + 1 → getD (set l i v) k d ≡ F k
+entry-next l i v d F h e below k u = go (ℕ-discrete k i)
+  where
+    go : Dec (k ≡ i) → getD (set l i v) k d ≡ F k
+    go (yes q) = rw q (getD-set-same l i v d h ∙ e)
+    go (no q) = getD-set-other l i k v d q ∙ below k (omega arith)
+
+-- and from the back: F is what stands at each index from i up to n
+pub entry-before : {A : Type 0} (l : List A) (i n : ℕ) (v d : A) (F : ℕ → A) → 0 < i → i - 1 < length l → v ≡ F (i - 1)
+    → ((k : ℕ) → i ≤ k → k < n → getD l k d ≡ F k) → (k : ℕ) → i - 1 ≤ k → k < n → getD (set l (i - 1) v) k d ≡ F k
+entry-before l i n v d F pos h e above k low high = go (ℕ-discrete k (i - 1))
+  where
+    go : Dec (k ≡ i - 1) → getD (set l (i - 1) v) k d ≡ F k
+    go (yes q) = rw q (getD-set-same l (i - 1) v d h ∙ e)
+    go (no q) = getD-set-other l (i - 1) k v d q ∙ above k (omega arith) high

@@ -1,0 +1,93 @@
+-- The numbers below k that pass a test, as k grows, and how many they are.
+use mathlib.Core.Path.{_≡_, refl, sym, ap, _∙_}
+use mathlib.Core.Bool.{Bool, true, false}
+use mathlib.Core.List.{List, append-nil, [], _∷_, _++_}
+use Prim.Native.Nat.{_-_, ℕ, zero, suc, _+_, _≤_, _<_}
+use native.Mathlib.Nat.{zero-add}
+use native.Mathlib.Omega.{arith}
+use lib.ListN.{getD, take, length-append, length}
+use Rattle.theory.proofs.Lists.Index.{in-at}
+use Rattle.theory.specs.Range.{passing}
+use Rattle.theory.proofs.Range.{passing-on, passing-off, passing-append, passing-sound}
+
+-- one number more
+pub passing-next-on : (f : ℕ → Bool) (k : ℕ) → f k ≡ true → passing f (k + 1) 0 ≡ passing f k 0 ++ (k ∷ [])
+unfolding passing
+passing-next-on f k e =
+    passing-append f k 1 0 ∙ ap (λ xs. passing f k 0 ++ xs) (rw (zero-add k) (passing-on f 0 k e))
+
+pub passing-next-off : (f : ℕ → Bool) (k : ℕ) → f k ≡ false → passing f (k + 1) 0 ≡ passing f k 0
+unfolding passing
+passing-next-off f k e =
+    passing-append f k 1 0 ∙ ap (λ xs. passing f k 0 ++ xs) (rw (zero-add k) (passing-off f 0 k e)) ∙ append-nil (passing f k 0)
+
+-- a shorter range lists no more
+pub passing-shorter : (f : ℕ → Bool) (j k : ℕ) → j ≤ k → length (passing f j 0) ≤ length (passing f k 0)
+passing-shorter f j k h =
+    let e : j + (k - j) ≡ k = omega arith in
+    rw (← e) (omega (arith, ap length (passing-append f j (k - j) 0), length-append (passing f j 0) (passing f (k - j) (0 + j))))
+
+-- no more are listed than there are numbers
+pub passing-most : (f : ℕ → Bool) (k i : ℕ) → length (passing f k i) ≤ k
+unfolding passing
+passing-most f zero i = omega arith
+passing-most f (suc k) i = go (passing-most f k (suc i)) (f i) refl
+  where
+    go : length (passing f k (suc i)) ≤ k → (b : Bool) → f i ≡ b → length (passing f (suc k) i) ≤ suc k
+    go ih true e = omega (arith, ih, ap length (passing-on f k i e))
+    go ih false e = omega (arith, ih, ap length (passing-off f k i e))
+
+-- the entries before one are those below it
+pub passing-prefix : (f : ℕ → Bool) (k i j : ℕ) → j < length (passing f k i)
+    → take j (passing f k i) ≡ passing f (getD (passing f k i) j 0 - i) i
+unfolding passing
+passing-prefix f zero i j h = absurd (omega arith)
+passing-prefix f (suc k) i j h = go (passing-prefix f k (suc i)) (f i) refl
+  where
+    rest : List ℕ
+    rest = passing f k (suc i)
+
+    step : ((t : ℕ) → t < length rest → take t rest ≡ passing f (getD rest t 0 - suc i) (suc i)) → (t : ℕ) → t < length rest
+        → (suc (getD rest t 0 - suc i) ≡ getD rest t 0 - i) × (take t rest ≡ passing f (getD rest t 0 - suc i) (suc i))
+    step ih t l =
+        let w = passing-sound f k (suc i) (getD rest t 0) (in-at rest t 0 l) in
+        (omega (arith, w .low), ih t l)
+
+    on : ((t : ℕ) → t < length rest → take t rest ≡ passing f (getD rest t 0 - suc i) (suc i)) → f i ≡ true → (t : ℕ) → t < suc
+        (length rest)
+        → take t (i ∷ rest) ≡ passing f (getD (i ∷ rest) t 0 - i) i
+    on ih e zero l = let z : i - i ≡ 0 = omega arith in rw z
+    on ih e (suc t) l =
+        let (n, w) = step ih t (omega arith) in
+        ap (λ xs. i ∷ xs) w ∙ sym (passing-on f (getD rest t 0 - suc i) i e) ∙ ap (λ (x : ℕ). passing f x i) n
+
+    go : ((t : ℕ) → t < length rest → take t rest ≡ passing f (getD rest t 0 - suc i) (suc i)) → (b : Bool) → f i ≡ b
+        → take j (passing f (suc k) i) ≡ passing f (getD (passing f (suc k) i) j 0 - i) i
+    go ih true e = rw (passing-on f k i e) (on ih e j (omega (arith, ap length (passing-on f k i e))))
+    go ih false e =
+        let (n, w) = step ih j (omega (arith, ap length (passing-off f k i e))) in
+        rw (passing-off f k i e) (w ∙ sym (passing-off f (getD rest j 0 - suc i) i e) ∙ ap (λ (x : ℕ). passing f x i) n)
+
+-- the list has k entries exactly if all k numbers pass
+pub passing-full : (f : ℕ → Bool) (k : ℕ) → length (passing f k 0) ≡ k → (c : ℕ) → c < k → f c ≡ true
+passing-full f k e c h = go (f c) refl
+  where
+    go : (b : Bool) → f c ≡ b → f c ≡ true
+    go true q = q
+    go false q =
+        let short : length (passing f (c + 1) 0) ≤ c = omega (arith, ap length (passing-next-off f c q), passing-most f c 0) in
+        let n : c + 1 + (k - (c + 1)) ≡ k = omega arith in
+        absurd (omega (
+          arith,
+          ap (λ (x : ℕ). length (passing f x 0)) n,
+          ap length (passing-append f (c + 1) (k - (c + 1)) 0),
+          length-append (passing f (c + 1) 0) (passing f (k - (c + 1)) (0 + (c + 1))),
+          passing-most f (k - (c + 1)) (0 + (c + 1)),
+        ))
+
+pub passing-all : (f : ℕ → Bool) (k i : ℕ) → ((c : ℕ) → i ≤ c → c < i + k → f c ≡ true) → length (passing f k i) ≡ k
+unfolding passing
+passing-all f zero i h = refl
+passing-all f (suc k) i h =
+    ap length (passing-on f k i (h i (omega arith) (omega arith)))
+    ∙ ap suc (passing-all f k (suc i) (λ c l b. h c (omega arith) (omega arith)))
