@@ -1,0 +1,11 @@
+-- Laws of class lists.
+pub mod LeastPassing
+pub mod Entries
+pub mod Searching
+pub mod Faults
+pub mod Sharing
+pub mod Checks
+pub mod MarkedChecks
+pub mod ShortestAccepted
+pub mod NextMember
+pub mod NextAnswers

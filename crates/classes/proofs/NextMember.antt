@@ -1,0 +1,169 @@
+-- The least member of a class, and of a list of classes, at or after a point.
+use mathlib.Core.Path.{_≡_, refl, sym, ap, _∙_}
+use mathlib.Core.Bool.{Bool, true, false, _||_}
+use mathlib.Core.List.{List, [], _∷_, _++_}
+use Prim.Native.Nat.{ℕ, zero, suc, _+_, _-_, _*_, _/_, _%_, _^_, _≤_, _<_, min}
+use native.Mathlib.Nat.{mod-lt, mod-eq-of-lt, add-mul-mod-self-right, div-add-mod', mul-le-mul-right}
+use native.Mathlib.Decide.{decLe, decLt}
+use native.Mathlib.Omega.{arith}
+use borrow.Author.Tests.{le-leb, lt-leb, eq-eqb, ne-eqb}
+use lib.ListN.{length, getD, take}
+use Rattle.theory.specs.Range.{least, passing}
+use Rattle.theory.specs.Class.{Class, class, isMember}
+use Rattle.theory.specs.ClassList.{members}
+use Rattle.theory.specs.ThirdDemand.{slot}
+use Rattle.theory.proofs.Lists.Fill.{take-next}
+use Rattle.theory.proofs.Range.{least-agree, least-range, passing-on, passing-off}
+use Rattle.classes.specs.Rule7.{classesOf}
+use Rattle.classes.specs.Next.{memberFrom}
+use Rattle.classes.proofs.Entries.{classes-slot, classes-same-length}
+use Rattle.classes.proofs.Faults.{Faultless, faultless-entry}
+use Rattle.classes.proofs.LeastPassing.{least-on, least-off, least-is, least-or}
+
+-- One class: the numbers congruent to a modulo q
+
+module _ (a q point : ℕ) (h : a < q) where
+  at-once : point ≤ a → memberFrom a q point ≡ a
+  unfolding memberFrom
+  at-once l = rw (le-leb point a l, memberFrom)
+
+  steps : ℕ
+  steps = (point - a + (q - 1)) / q
+
+  later : a < point → memberFrom a q point ≡ a + steps * q
+  unfolding memberFrom steps
+  later l = rw (lt-leb point a l, memberFrom)
+
+  -- the number of steps is enough and no more
+  steps-range : a < point → (point ≤ a + steps * q) × (a + steps * q < point + q)
+  unfolding steps
+  steps-range l =
+      let d = point - a + (q - 1) in
+      let e = div-add-mod' d q in
+      let r : d % q < q = mod-lt d (omega arith) in
+      (omega arith, omega arith)
+
+  -- it is not before the point
+  pub from-point : point ≤ memberFrom a q point
+  from-point = go (decLe point a)
+    where
+      go : Dec (point ≤ a) → point ≤ memberFrom a q point
+      go (yes l) = rw (at-once l) l
+      go (no l) = let s : a < point = omega arith in rw (later s) (steps-range s .0)
+
+  -- it is a member
+  pub from-congruent : memberFrom a q point % q ≡ a
+  from-congruent = go (decLe point a)
+    where
+      go : Dec (point ≤ a) → memberFrom a q point % q ≡ a
+      go (yes l) = rw (at-once l) (mod-eq-of-lt h)
+      go (no l) = let s : a < point = omega arith in rw (later s) (add-mul-mod-self-right a steps q ∙ mod-eq-of-lt h)
+
+  -- a smaller number that is congruent to a is smaller by q at least
+  gap : (x k : ℕ) → x < a + k * q → x % q ≡ a → x + q ≤ a + k * q
+  gap x k l e = go (decLt (x / q) k)
+    where
+      whole : x / q * q + a ≡ x
+      whole = ap (λ (y : ℕ). x / q * q + y) (sym e) ∙ div-add-mod' x q
+
+      go : Dec (x / q < k) → x + q ≤ a + k * q
+      go (yes u) = omega (arith, whole, mul-le-mul-right q u)
+      go (no u) = let v : k ≤ x / q = omega arith in absurd (omega (arith, whole, mul-le-mul-right q v))
+
+  -- and no member from the point on is smaller
+  pub from-least : (x : ℕ) → point ≤ x → x < memberFrom a q point → (x % q ≡ a → ⊥)
+  from-least x low l e = go (decLe point a)
+    where
+      go : Dec (point ≤ a) → ⊥
+      go (yes s) =
+          let u : x < a = rw (at-once s) at l in
+          let v : x % q ≡ x = mod-eq-of-lt (omega arith) in
+          omega arith
+      go (no s) =
+          let s′ : a < point = omega arith in
+          let u : x < a + steps * q = rw (later s′) at l in
+          omega (arith, gap x steps u e, steps-range s′ .1)
+
+-- so it is the least member of the class, where it is below m
+pub member-least : (p : ℕ) (c : Class) (point m : ℕ) → c .residue < p ^ (c .level) → point ≤ m
+    → least (isMember p c) (m - point) point ≡ min (memberFrom (c .residue) (p ^ (c .level)) point) m
+unfolding isMember
+member-least p c point m fits h =
+    least-is (isMember p c) (m - point) point (min v m) (omega (arith, from-point a q point fits)) (omega arith)
+    (λ x low l. ne-eqb (x % q) a (from-least a q point fits x low (omega arith)))
+    (λ l. let e : min v m ≡ v = omega arith in rw e (eq-eqb (v % q) a (from-congruent a q point fits)))
+  where
+    a : ℕ
+    a = c .residue
+
+    q : ℕ
+    q = p ^ (c .level)
+
+    v : ℕ
+    v = memberFrom a q point
+
+-- A list of classes
+
+-- the members with one class more
+pub members-snoc : (p : ℕ) (l : List Class) (c : Class) (r : ℕ) → members p (l ++ (c ∷ [])) r ≡ (members p l r || isMember p c r)
+unfolding members
+members-snoc p [] c r = go (isMember p c r) refl
+  where
+    go : (b : Bool) → isMember p c r ≡ b → (isMember p c r || false) ≡ isMember p c r
+    go true e = rw e
+    go false e = rw e
+members-snoc p (d ∷ l) c r = go (members-snoc p l c r) (isMember p d r) refl
+  where
+    go : members p (l ++ (c ∷ [])) r ≡ (members p l r || isMember p c r) → (b : Bool) → isMember p d r ≡ b
+        → (isMember p d r || members p (l ++ (c ∷ [])) r) ≡ (isMember p d r || members p l r || isMember p c r)
+    go ih true e = rw e
+    go ih false e = rw e ih
+
+-- no class
+pub least-of-none : (p point m : ℕ) → point ≤ m → least (members p []) (m - point) point ≡ m
+unfolding members
+least-of-none p point m h = least-is (members p []) (m - point) point m h (omega arith) (λ x low l. refl) (λ l. absurd (omega arith))
+
+-- one class more
+pub least-of-snoc : (p : ℕ) (l : List Class) (c : Class) (point m : ℕ) → c .residue < p ^ (c .level) → point ≤ m
+    → least (members p (l ++ (c ∷ []))) (m - point) point
+    ≡ min (least (members p l) (m - point) point) (memberFrom (c .residue) (p ^ (c .level)) point)
+least-of-snoc p l c point m fits h =
+    let k = m - point in
+    let best = least (members p l) k point in
+    let v = memberFrom (c .residue) (p ^ (c .level)) point in
+    let top : best ≤ m = omega (arith, least-range (members p l) k point .1) in
+    let e : min best (min v m) ≡ min best v = omega arith in
+    least-agree (members p (l ++ (c ∷ []))) (λ x. members p l x || isMember p c x) k point (λ x low b. members-snoc p l c x)
+    ∙ least-or (members p l) (isMember p c) k point
+    ∙ ap (λ (x : ℕ). min best x) (member-least p c point m fits h)
+    ∙ e
+
+-- entry i of a lent list is taken in
+pub least-of-next : (p n : ℕ) (residues levels : List ℕ) → length residues ≡ length levels → Faultless p n (classesOf residues levels)
+    → (i point m : ℕ) → i < length residues → point ≤ m
+    → least (members p (take (i + 1) (classesOf residues levels))) (m - point) point
+    ≡ min (least (members p (take i (classesOf residues levels))) (m - point) point)
+    (memberFrom (getD residues i 0) (p ^ getD levels i 0) point)
+least-of-next p n residues levels same F i point m h l =
+    let L = classesOf residues levels in
+    let e : slot L i ≡ class (getD residues i 0) (getD levels i 0) = classes-slot residues levels i h (omega arith) in
+    let w : take (i + 1) L ≡ take i L ++ (class (getD residues i 0) (getD levels i 0) ∷ []) =
+    take-next L i (class 0 0) (omega (arith, classes-same-length residues levels same)) ∙ ap (λ (c : Class). take i L ++ (c ∷ [])) e in
+    ap (λ (k : List Class). least (members p k) (m - point) point) w
+    ∙ least-of-snoc p (take i L) (class (getD residues i 0) (getD levels i 0)) point m
+    (faultless-entry p n residues levels same F i h .residue-fits) l
+
+-- The numbers that pass begin with the least
+
+pub passing-first : (f : ℕ → Bool) (k i : ℕ) → least f k i < i + k → (rest : List ℕ) × (passing f k i ≡ least f k i ∷ rest)
+unfolding least
+passing-first f zero i h = absurd (omega arith)
+passing-first f (suc k) i h = go (passing-first f k (suc i)) (f i) refl
+  where
+    go : (least f k (suc i) < suc i + k → (rest : List ℕ) × (passing f k (suc i) ≡ least f k (suc i) ∷ rest)) → (b : Bool) → f i ≡ b
+        → (rest : List ℕ) × (passing f (suc k) i ≡ least f (suc k) i ∷ rest)
+    go ih true e = (passing f k (suc i), passing-on f k i e ∙ ap (λ (x : ℕ). x ∷ passing f k (suc i)) (sym (least-on f k i e)))
+    go ih false e =
+        let (rest, w) = ih (omega (arith, least-off f k i e)) in
+        (rest, passing-off f k i e ∙ w ∙ ap (λ (x : ℕ). x ∷ rest) (sym (least-off f k i e)))

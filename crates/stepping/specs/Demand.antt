@@ -1,0 +1,46 @@
+-- 01's "Rival lists and stepping", and the bound by D, for an accepted call of the solver and the calls of next after it.
+use mathlib.Core.Path.{_≡_}
+use mathlib.Core.Bool.{true, false}
+use mathlib.Core.List.{List, [], _∷_}
+use Prim.Native.Nat.{ℕ, _≤_, _<_}
+use lib.ListN.{length, take}
+use Rattle.theory.specs.Lists.{Permutation}
+use Rattle.theory.specs.Polynomial.{reduced, roots}
+use Rattle.theory.specs.Degree.{allZero, degreeBound}
+use Rattle.theory.specs.Class.{Class, class, Member}
+use Rattle.theory.specs.Rival.{Rival}
+use Rattle.theory.specs.Stepping.{Answer, row, claimed}
+use Rattle.theory.specs.ThirdDemand.{slot}
+use Rattle.classes.specs.Next.{nextOf, answerOf}
+use Rattle.stepping.specs.Call.{Input, residuesAfter, levelsAfter, firstSlots}
+
+-- next, called with "the solver's p and n and the first k slots of residues and levels as the solver left them": next's contract
+unfoldable pub nextCall : Input → ℕ → ℕ → Answer
+unfolding residuesAfter levelsAfter
+nextCall x k point = answerOf (nextOf (x .p) (x .n) (take k (residuesAfter x)) (take k (levelsAfter x)) point)
+
+pub record Demand (x : Input) (k : ℕ) : Type 0 where
+  pub slots : length (firstSlots x k) ≡ k
+  -- "its first k slots are a rival"
+  pub rival : Rival (roots (x .f) (x .p) (x .n)) (x .p) (x .n) (firstSlots x k)
+  -- "Every rival has at least k entries"
+  pub shortest : (R : List Class) → Rival (roots (x .f) (x .p) (x .n)) (x .p) (x .n) R → k ≤ length R
+  -- "and one with exactly k has the same pairs of residue and level as these slots, order aside"
+  pub alone : (R : List Class) → Rival (roots (x .f) (x .p) (x .n)) (x .p) (x .n) R → length R ≡ k → Permutation R (firstSlots x k)
+  -- "No residue is a member of the classes in two of these slots"
+  pub disjoint : (i j : ℕ) → i < k → j < k → (r : ℕ) → Member (x .p) (x .n) (slot (firstSlots x k) i) r
+      → Member (x .p) (x .n) (slot (firstSlots x k) j) r → i ≡ j
+  -- at most D classes, unless all reduced coefficients are zero
+  pub at-most-D : allZero (reduced (x .f) (x .p) (x .n)) ≡ false → k ≤ degreeBound (x .p) (reduced (x .f) (x .p) (x .n))
+  -- "If all are zero, everything is a root": the one class of everything
+  pub everything : allZero (reduced (x .f) (x .p) (x .n)) ≡ true → firstSlots x k ≡ class 0 0 ∷ []
+  -- "This is a single claim about the whole row of calls, for every f, p and n accepted and every q and m"
+  pub stepping : (q m : ℕ) → row (nextCall x k) q m ≡ claimed (roots (x .f) (x .p) (x .n)) (x .p) (x .n) q m
+
+-- "Two accepted calls of the solver with the same p and n, whatever their coefficients, whose root sets are equal return the same k and the
+-- same root count and put the same residues and levels into their first k slots, slot by slot"
+pub record Same (x y : Input) (k count k′ count′ : ℕ) : Type 0 where
+  pub same-k : k ≡ k′
+  pub same-count : count ≡ count′
+  pub same-residues : take k (residuesAfter x) ≡ take k′ (residuesAfter y)
+  pub same-levels : take k (levelsAfter x) ≡ take k′ (levelsAfter y)

@@ -1,0 +1,4 @@
+-- The third demand over the solver and next together, as statements about their contracts' definitions.
+pub mod Call
+pub mod Demand
+pub mod Row
