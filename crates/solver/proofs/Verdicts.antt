@@ -42,12 +42,10 @@ module _ (f : List ℤ) (p n slots levels marks : ℕ) where
       unfolding solverVerdict
       lengths-differ h =
           rw (
-            rule2-passes (length f) (λ z. omega arith),
-            rule3-passes (length f) few,
+            rule2-passes (length f) (λ z. omega arith), rule3-passes (length f) few,
             U .passes4,
             U .passes5,
-            rule6-three-refuses slots
-                levels marks h,
+            rule6-three-refuses slots levels marks h,
           )
 
       pub too-few-slots : slots ≡ levels → slots ≡ marks → slots < length (solution f p n)
@@ -55,12 +53,10 @@ module _ (f : List ℤ) (p n slots levels marks : ℕ) where
       unfolding solverVerdict
       too-few-slots d e h =
           rw (
-            rule2-passes (length f) (λ z. omega arith),
-            rule3-passes (length f) few,
+            rule2-passes (length f) (λ z. omega arith), rule3-passes (length f) few,
             U .passes4,
             U .passes5,
-            rule6-three-passes slots
-                levels marks d e,
+            rule6-three-passes slots levels marks d e,
             rule11-refuses slots (length (solution f p n)) h,
           )
 
@@ -68,12 +64,10 @@ module _ (f : List ℤ) (p n slots levels marks : ℕ) where
       unfolding solverVerdict
       accepted d e h =
           rw (
-            rule2-passes (length f) (λ z. omega arith),
-            rule3-passes (length f) few,
+            rule2-passes (length f) (λ z. omega arith), rule3-passes (length f) few,
             U .passes4,
             U .passes5,
-            rule6-three-passes slots
-                levels marks d e,
+            rule6-three-passes slots levels marks d e,
             rule11-passes slots (length (solution f p n)) h,
           )
 
@@ -108,24 +102,20 @@ module _ (f : List ℤ) (p n point : ℕ) where
       unfolding testVerdict
       point-refused h =
           rw (
-            rule2-passes (length f) (λ z. omega arith),
-            rule3-passes (length f) few,
+            rule2-passes (length f) (λ z. omega arith), rule3-passes (length f) few,
             U .passes4,
             U .passes5,
-            rule8-refuses point (p ^ n)
-                (rw (← U .power) h),
+            rule8-refuses point (p ^ n) (rw (← U .power) h),
           )
 
       pub point-accepted : point < m → testVerdict f p n point ≡ passes
       unfolding testVerdict
       point-accepted h =
           rw (
-            rule2-passes (length f) (λ z. omega arith),
-            rule3-passes (length f) few,
+            rule2-passes (length f) (λ z. omega arith), rule3-passes (length f) few,
             U .passes4,
             U .passes5,
-            rule8-passes point (p ^ n)
-                (rw (← U .power) h),
+            rule8-passes point (p ^ n) (rw (← U .power) h),
           )
 
   pub tested-refused : (r : Refusal) → testVerdict f p n point ≡ refuses r → testedOf f p n point ≡ tested.Refused r

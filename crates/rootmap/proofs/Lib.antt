@@ -1,0 +1,14 @@
+-- Laws of maps.
+mod Booleans
+mod Or
+mod Adding
+mod SetBit
+mod Steps
+mod Ones
+mod Listed
+mod Bytes
+mod Verdicts
+mod Answers
+pub mod Rivals
+pub mod Examples
+pub mod SolverList

@@ -1,0 +1,13 @@
+-- Laws of the crate's definitions.
+pub mod Steps
+pub mod Capped
+pub mod Holds
+pub mod Values
+pub mod Answers
+pub mod Rows
+pub mod FirstLine
+pub mod ReadBack
+pub mod Placed
+pub mod Input
+pub mod Accepted
+pub mod Examples

@@ -1,0 +1,5 @@
+-- How the text reads.
+pub mod Reading
+pub mod Text
+pub mod Form
+pub mod Input

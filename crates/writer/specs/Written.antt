@@ -1,0 +1,46 @@
+-- What the writer answers, and what it leaves in the text (01, "Lent lists, map and text" and "When the solver declines").
+use mathlib.Core.List.{List, [], _∷_, _++_}
+use Prim.Native.Nat.{ℕ, _+_, _*_}
+use lib.Dec.{ltb}
+use lib.ListN.{length, drop}
+use Rattle.refusal.specs.declared.Refusal.the-variants.{BufferTooSmall}
+use Rattle.refusal.specs.Rules.{Verdict, passes, refuses, rule, tried, rule6Three, rule12}
+use Rattle.numbers.specs.Modulus.{rule4, rule5}
+use Rattle.classes.specs.Rule7.{classesOf, rule7Marked}
+use Rattle.writer.specs.declared.Written.{Written}
+use Rattle.writer.specs.declared.Written.the-variants.{Bytes, Refused}
+
+-- the number of bytes written, or the refusal
+abbrev pub bytesOr : Verdict → ℕ → Written
+bytesOr passes bytes = Bytes bytes
+bytesOr (refuses r) bytes = Refused r
+
+-- "Buffer bytes after the last line keep their content", and a refusal "alters no lent memory"
+abbrev pub filled : Verdict → List ℕ → List ℕ → List ℕ
+filled passes new old = new ++ drop (length new) old
+filled (refuses r) new old = old
+
+-- the writer's rules, given the length of the buffer
+unfoldable pub writerVerdict : ℕ → ℕ → List ℕ → List ℕ → List ℕ → ℕ → Verdict
+unfolding rule4 rule5 classesOf rule7Marked
+writerVerdict p n residues levels marks bytes =
+    tried
+    (rule4 p
+    ∷ rule5 p n
+    ∷ rule6Three (length residues) (length levels) (length marks)
+    ∷ rule7Marked p n (classesOf residues levels) marks
+    ∷ rule12 bytes (length residues)
+    ∷ [])
+
+-- a line of 45 bytes for the list, and one a class
+unfoldable pub writtenOf : ℕ → ℕ → List ℕ → List ℕ → List ℕ → ℕ → Written
+unfolding writerVerdict
+writtenOf p n residues levels marks bytes = bytesOr (writerVerdict p n residues levels marks bytes) (45 * (length residues + 1))
+
+-- the line of a refusal has 23 bytes: a buffer with fewer is refused by the rule for the writer's
+unfoldable pub refusalVerdict : ℕ → Verdict
+refusalVerdict bytes = rule (ltb bytes 23) (BufferTooSmall 23)
+
+unfoldable pub refusalWrittenOf : ℕ → Written
+unfolding refusalVerdict
+refusalWrittenOf bytes = bytesOr (refusalVerdict bytes) 23

@@ -1,0 +1,84 @@
+// The text writer: a list of classes, or a refusal, as lines of columns in a lent text.
+ghost use mathlib.Core.Path.{_≡_};
+ghost use Prim.Native.Nat.{_+_, _*_};
+ghost use lib.ListN.{length};
+ghost use Rattle.refusal.specs.Rules.{rule12};
+ghost use Rattle.classes.specs.Rule7.{classesOf};
+ghost use Rattle.writer.specs.Place.{ListsFit};
+ghost use Rattle.writer.specs.Output.{outputText, refusalLine};
+ghost use Rattle.writer.specs.Written.{bytesOr, filled, writerVerdict, writtenOf, refusalVerdict, refusalWrittenOf};
+use numbers::Modulus;
+use refusal::Refusal;
+
+mod column;
+mod lines;
+
+pub enum Written {
+    // the number of bytes written, which are the first of the text
+    Bytes(usize),
+    Refused(Refusal),
+}
+
+// The output for a list of classes: a line of p, n, the number of classes and the root count, then a line a class of residue, level,
+// number of members and mark; bytes after the last line keep their content. Rules 4, 5, 6, 7 and 12; a refusal alters nothing.
+pub fn write_classes(
+    p: u32,
+    n: u32,
+    residues: &[u32],
+    levels: &[u8],
+    marks: &[u8],
+    text: &mut [u8],
+) -> Written
+    ensures answer { λ r. ⌜ r ≡ writtenOf p n (now (residues .entry)) (now (levels .entry)) (now (marks .entry))
+        (length (now (text .entry))) ⌝ }
+    ensures text { λ _. ⌜ now (text .exit)
+        ≡ filled (writerVerdict p n (now (residues .entry)) (now (levels .entry)) (now (marks .entry)) (length (now (text .entry))))
+        (outputText p n (classesOf (now (residues .entry)) (now (levels .entry))) (now (marks .entry))) (now (text .entry)) ⌝ }
+{
+    match classes::check_marked_list(p, n, residues, levels, marks) {
+        Modulus::Accepted(_) => write_checked(p, n, residues, levels, marks, text),
+        Modulus::Refused(r) => Written::Refused(r),
+    }
+}
+
+// Rule 12 for lists that pass the others, and the text.
+fn write_checked(
+    p: u32,
+    n: u32,
+    residues: &[u32],
+    levels: &[u8],
+    marks: &[u8],
+    text: &mut [u8],
+) -> Written
+    requires { ⌜ ListsFit p n (now residues) (now levels) (now marks) ⌝ }
+    ensures answer { λ r. ⌜ r ≡ bytesOr (rule12 (length (now (text .entry))) (length (now (residues .entry))))
+        (45 * (length (now (residues .entry)) + 1)) ⌝ }
+    ensures text { λ _. ⌜ now (text .exit)
+        ≡ filled (rule12 (length (now (text .entry))) (length (now (residues .entry))))
+        (outputText p n (classesOf (now (residues .entry)) (now (levels .entry))) (now (marks .entry))) (now (text .entry)) ⌝ }
+{
+    let k = residues.len();
+    let bytes = 45 * (k + 1);
+    if text.len() < bytes {
+        return Written::Refused(Refusal::BufferTooSmall(bytes));
+    }
+    let roots = lines::member_total(p, n, levels);
+    column::put_line(text, 0, p as u64, n as u64, k as u64, roots);
+    lines::put_classes(p, n, residues, levels, marks, text);
+    Written::Bytes(bytes)
+}
+
+// The line of a refusal: its number and place. A text with fewer than 23 bytes is refused, and is not altered.
+pub fn write_refusal(refusal: Refusal, text: &mut [u8]) -> Written
+    ensures answer { λ r. ⌜ r ≡ refusalWrittenOf (length (now (text .entry))) ⌝ }
+    ensures text { λ _. ⌜ now (text .exit)
+        ≡ filled (refusalVerdict (length (now (text .entry)))) (refusalLine refusal) (now (text .entry)) ⌝ }
+{
+    if text.len() < 23 {
+        return Written::Refused(Refusal::BufferTooSmall(23));
+    }
+    column::put_column(text, 0, 11, refusal.number() as u64);
+    column::put_column(text, 11, 11, refusal.place() as u64);
+    text[22] = b'\n';
+    Written::Bytes(23)
+}
