@@ -21,7 +21,7 @@ use Rattle.theory.proofs.Range.{all-elim}
 use Rattle.classes.specs.Rule7.{classesOf, levelAbove, residueOutside, notAbove, sharedEarlier, faultAt, firstFault}
 use Rattle.classes.specs.Search.{FaultlessTo}
 use Rattle.classes.proofs.Entries.{classes-slot, classes-same-length}
-use Rattle.classes.proofs.LeastPassing.{least-is}
+use Rattle.theory.proofs.Least.{least-is}
 
 -- One entry without a fault
 

@@ -1,5 +1,4 @@
 -- Laws of class lists.
-pub mod LeastPassing
 pub mod Entries
 pub mod Searching
 pub mod Faults

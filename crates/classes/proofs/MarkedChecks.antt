@@ -17,7 +17,7 @@ use Rattle.numbers.proofs.Rules.{Usable, usable, modulus-passes, refused-leads}
 use Rattle.classes.specs.Rule7.{classesOf, faultAt, markAbove, firstFault, firstMarkedFault, rule7Marked}
 use Rattle.classes.specs.Checked.{markedVerdict, markedCheckedOf}
 use Rattle.classes.specs.Search.{firstHighMark}
-use Rattle.classes.proofs.LeastPassing.{least-or}
+use Rattle.theory.proofs.Least.{least-or}
 use Rattle.classes.proofs.Entries.{classes-same-length}
 use Rattle.classes.proofs.Faults.{Faultless, faultless-list, faultless-few}
 use Rattle.classes.proofs.Checks.{AllPass, all-accepted, first-refused, all-lead, same-three-lengths, rule7-marked-faultless}

@@ -25,7 +25,7 @@ use Rattle.classes.specs.Next.{nextVerdict, nextOr, nextOf, answerOf}
 use Rattle.classes.proofs.Entries.{classes-of-parts}
 use Rattle.classes.proofs.Checks.{Checked, checked-accepted, checked-refused, checked-leads}
 use Rattle.classes.proofs.ShortestAccepted.{shortest-accepted}
-use Rattle.classes.proofs.NextMember.{passing-first}
+use Rattle.theory.proofs.Least.{passing-first}
 
 module _ (p n : ℕ) (residues levels : List ℕ) (point : ℕ) where
   -- the list is refused

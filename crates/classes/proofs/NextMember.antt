@@ -1,24 +1,25 @@
 -- The least member of a class, and of a list of classes, at or after a point.
 use mathlib.Core.Path.{_≡_, refl, sym, ap, _∙_}
-use mathlib.Core.Bool.{Bool, true, false, _||_}
+use mathlib.Core.Bool.{_||_}
 use mathlib.Core.List.{List, [], _∷_, _++_}
-use Prim.Native.Nat.{ℕ, zero, suc, _+_, _-_, _*_, _/_, _%_, _^_, _≤_, _<_, min}
+use Prim.Native.Nat.{ℕ, _+_, _-_, _*_, _/_, _%_, _^_, _≤_, _<_, min}
 use native.Mathlib.Nat.{mod-lt, mod-eq-of-lt, add-mul-mod-self-right, div-add-mod', mul-le-mul-right}
 use native.Mathlib.Decide.{decLe, decLt}
 use native.Mathlib.Omega.{arith}
 use borrow.Author.Tests.{le-leb, lt-leb, eq-eqb, ne-eqb}
 use lib.ListN.{length, getD, take}
-use Rattle.theory.specs.Range.{least, passing}
+use Rattle.theory.specs.Range.{least}
 use Rattle.theory.specs.Class.{Class, class, isMember}
 use Rattle.theory.specs.ClassList.{members}
 use Rattle.theory.specs.ThirdDemand.{slot}
 use Rattle.theory.proofs.Lists.Fill.{take-next}
-use Rattle.theory.proofs.Range.{least-agree, least-range, passing-on, passing-off}
+use Rattle.theory.proofs.Range.{least-agree, least-range}
 use Rattle.classes.specs.Rule7.{classesOf}
 use Rattle.classes.specs.Next.{memberFrom}
 use Rattle.classes.proofs.Entries.{classes-slot, classes-same-length}
 use Rattle.classes.proofs.Faults.{Faultless, faultless-entry}
-use Rattle.classes.proofs.LeastPassing.{least-on, least-off, least-is, least-or}
+use Rattle.theory.proofs.Least.{least-is, least-or}
+use Rattle.theory.proofs.Classes.Members.{members-snoc}
 
 -- One class: the numbers congruent to a modulo q
 
@@ -104,21 +105,6 @@ member-least p c point m fits h =
 
 -- A list of classes
 
--- the members with one class more
-pub members-snoc : (p : ℕ) (l : List Class) (c : Class) (r : ℕ) → members p (l ++ (c ∷ [])) r ≡ (members p l r || isMember p c r)
-unfolding members
-members-snoc p [] c r = go (isMember p c r) refl
-  where
-    go : (b : Bool) → isMember p c r ≡ b → (isMember p c r || false) ≡ isMember p c r
-    go true e = rw e
-    go false e = rw e
-members-snoc p (d ∷ l) c r = go (members-snoc p l c r) (isMember p d r) refl
-  where
-    go : members p (l ++ (c ∷ [])) r ≡ (members p l r || isMember p c r) → (b : Bool) → isMember p d r ≡ b
-        → (isMember p d r || members p (l ++ (c ∷ [])) r) ≡ (isMember p d r || members p l r || isMember p c r)
-    go ih true e = rw e
-    go ih false e = rw e ih
-
 -- no class
 pub least-of-none : (p point m : ℕ) → point ≤ m → least (members p []) (m - point) point ≡ m
 unfolding members
@@ -153,17 +139,3 @@ least-of-next p n residues levels same F i point m h l =
     ap (λ (k : List Class). least (members p k) (m - point) point) w
     ∙ least-of-snoc p (take i L) (class (getD residues i 0) (getD levels i 0)) point m
     (faultless-entry p n residues levels same F i h .residue-fits) l
-
--- The numbers that pass begin with the least
-
-pub passing-first : (f : ℕ → Bool) (k i : ℕ) → least f k i < i + k → (rest : List ℕ) × (passing f k i ≡ least f k i ∷ rest)
-unfolding least
-passing-first f zero i h = absurd (omega arith)
-passing-first f (suc k) i h = go (passing-first f k (suc i)) (f i) refl
-  where
-    go : (least f k (suc i) < suc i + k → (rest : List ℕ) × (passing f k (suc i) ≡ least f k (suc i) ∷ rest)) → (b : Bool) → f i ≡ b
-        → (rest : List ℕ) × (passing f (suc k) i ≡ least f (suc k) i ∷ rest)
-    go ih true e = (passing f k (suc i), passing-on f k i e ∙ ap (λ (x : ℕ). x ∷ passing f k (suc i)) (sym (least-on f k i e)))
-    go ih false e =
-        let (rest, w) = ih (omega (arith, least-off f k i e)) in
-        (rest, passing-off f k i e ∙ w ∙ ap (λ (x : ℕ). x ∷ rest) (sym (least-off f k i e)))

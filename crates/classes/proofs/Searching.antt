@@ -1,28 +1,18 @@
 -- Looking a class up among the first entries of a list that rises.
 use mathlib.Core.Path.{_≡_, refl, sym, ap, _∙_}
-use mathlib.Core.Bool.{Bool, true, false, not, _&&_}
+use mathlib.Core.Bool.{Bool, true, false, _&&_}
 use mathlib.Core.List.{List}
 use Prim.Native.Nat.{ℕ, suc, _+_, _%_, _^_, _≤_, _<_}
 use native.Mathlib.Decide.{ℕ-discrete, decLt}
 use native.Mathlib.Omega.{arith}
-use borrow.Author.Tests.{leb-true, leb-false, le-leb, lt-leb, eq-eqb, ne-eqb, not-true, not-false}
+use borrow.Author.Tests.{leb-true, leb-false, le-leb, lt-leb, eq-eqb, ne-eqb}
 use lib.Dec.{eqb, leb}
 use lib.ListN.{getD}
-use Rattle.theory.specs.Range.{allBelow, least}
-use Rattle.theory.proofs.Tests.{contradiction, not-holding}
-use Rattle.theory.proofs.Range.{all-elim, all-intro, before-least, least-found}
+use Rattle.theory.specs.Range.{least}
+use Rattle.theory.proofs.Tests.{contradiction}
+use Rattle.theory.proofs.Range.{some-passes, none-passes, none-found, before-least, least-found}
 use Rattle.classes.specs.Search.{RisingTo, placeOf, listedBefore, containedBefore}
-use Rattle.classes.proofs.LeastPassing.{least-is}
-
--- "some" as "not all not"
-pub some-passes : (f : ℕ → Bool) (k i : ℕ) → i < k → f i ≡ true → not (allBelow (λ j. not (f j)) k) ≡ true
-some-passes f k i h e = rw (not-holding (allBelow (λ j. not (f j)) k) (λ a. contradiction (all-elim (λ j. not (f j)) k i a h) (rw e)))
-
-pub none-passes : (f : ℕ → Bool) (k : ℕ) → ((i : ℕ) → i < k → f i ≡ false) → not (allBelow (λ j. not (f j)) k) ≡ false
-none-passes f k h = rw (all-intro (λ j. not (f j)) k (λ i l. rw (h i l)))
-
-pub none-found : (f : ℕ → Bool) (k : ℕ) → not (allBelow (λ j. not (f j)) k) ≡ false → (i : ℕ) → i < k → f i ≡ false
-none-found f k e i h = not-true (f i) (all-elim (λ j. not (f j)) k i (not-false (allBelow (λ j. not (f j)) k) e) h)
+use Rattle.theory.proofs.Least.{least-is}
 
 -- Bisection
 

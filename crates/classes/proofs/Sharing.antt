@@ -16,7 +16,8 @@ use Rattle.classes.specs.Rule7.{classesOf, levelAbove, residueOutside, n
 use Rattle.classes.specs.Search.{RisingTo, FaultlessTo, listedBefore, containedBefore}
 use Rattle.classes.proofs.Entries.{classes-slot}
 use Rattle.classes.proofs.Faults.{entry-class, not-above-at, not-above-first, entries-rise, entries-below}
-use Rattle.classes.proofs.Searching.{none-passes, none-found, contained-nowhere, contained-none}
+use Rattle.theory.proofs.Range.{none-passes, none-found}
+use Rattle.classes.proofs.Searching.{contained-nowhere, contained-none}
 
 -- Two classes
 

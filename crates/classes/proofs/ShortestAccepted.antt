@@ -1,8 +1,8 @@
 -- The converse of rule 7: a list that has what the rule asks passes it, and the list of largest whole classes is one.
 use mathlib.Core.Path.{_≡_, sym, _∙_}
 use mathlib.Core.Bool.{Bool, true, false}
-use mathlib.Core.List.{List, [], _∷_, map}
-use Prim.Native.Nat.{ℕ, zero, suc, _-_, _^_, _<_}
+use mathlib.Core.List.{List, map}
+use Prim.Native.Nat.{ℕ, _-_, _^_, _<_}
 use native.Mathlib.Decide.{decLt}
 use native.Mathlib.Omega.{arith}
 use borrow.Author.Tests.{le-ltb, lt-leb}
@@ -13,14 +13,14 @@ use Rattle.theory.specs.ThirdDemand.{slot}
 use Rattle.theory.proofs.Tests.{not-holding}
 use Rattle.theory.proofs.Lists.Index.{in-at, same-index}
 use Rattle.theory.proofs.Classes.Cover.{shortest-rival, shortest-disjoint, shortest-no-repeat}
-use Rattle.theory.proofs.Classes.Rising.{Rising, shortest-rising}
+use Rattle.theory.proofs.Classes.Rising.{rising-at, shortest-rising}
 use Rattle.theory.proofs.Classes.Share.{Common, share-common}
 use Rattle.numbers.specs.declared.Modulus.the-variants.{Accepted}
 use Rattle.numbers.proofs.Rules.{Usable}
 use Rattle.classes.specs.Rule7.{classesOf, levelAbove, residueOutside, notAbove, sharedEarlier, faultAt, firstFault}
 use Rattle.classes.specs.Checked.{checkedOf}
 use Rattle.classes.proofs.Entries.{classes-of-parts}
-use Rattle.classes.proofs.Searching.{none-passes}
+use Rattle.theory.proofs.Range.{none-passes}
 use Rattle.classes.proofs.Faults.{Faultless, not-above-at, not-above-first, first-fault-is}
 use Rattle.classes.proofs.Checks.{checked-passes}
 
@@ -43,13 +43,6 @@ module _ (p n : ℕ) (L : List Class) (F : Faultless p n L) where
   pub faultless-first : firstFault p n L ≡ length L
   faultless-first =
       first-fault-is p n L (length L) (omega arith) (record { faultless = no-fault }) (λ h. absurd (omega arith))
-
--- entries of a rising list, by their index
-pub rising-at : (L : List Class) → Rising L → (i j : ℕ) → i < j → j < length L → slot L i .residue < slot L j .residue
-rising-at [] R i j l h = absurd (omega arith)
-rising-at (c ∷ L) R i zero l h = absurd (omega arith)
-rising-at (c ∷ L) R zero (suc j) l h = R .0 (slot L j) (in-at L j (class 0 0) (omega arith))
-rising-at (c ∷ L) R (suc i) (suc j) l h = rising-at L (R .1) i j (omega arith) (omega arith)
 
 module _ (S : ℕ → Bool) (p n : ℕ) (pos : 0 < p) where
   abbrev list : List Class

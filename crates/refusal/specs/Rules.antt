@@ -1,8 +1,9 @@
 -- The rules of 01's "When the solver declines" that are tests on numbers, and how rules are tried.
 use mathlib.Core.Bool.{Bool, true, false, not, _&&_}
-use mathlib.Core.List.{List, [], _∷_}
+use mathlib.Core.List.{List, [], _∷_, _++_}
 use Prim.Native.Nat.{ℕ, _+_, _*_, min}
 use lib.Dec.{eqb, ltb, leb}
+use lib.ListN.{length, drop}
 use Rattle.refusal.specs.declared.Refusal.{Refusal}
 use Rattle.refusal.specs.declared.Refusal.the-variants.{NoCoefficient, TooManyCoefficients, Lengths, Point, MapTooLarge, MapLength}
 use Rattle.refusal.specs.declared.Refusal.the-variants.{TooFewSlots, BufferTooSmall}
@@ -22,6 +23,11 @@ abbrev pub tried : List Verdict → Verdict
 tried [] = passes
 tried (passes ∷ rules) = tried rules
 tried (refuses r ∷ rules) = refuses r
+
+-- lent memory after a call: its front is written and the rest keeps its content, and a refusal "alters no lent memory"
+abbrev pub filled : Verdict → List ℕ → List ℕ → List ℕ
+filled passes new old = new ++ drop (length new) old
+filled (refuses r) new old = old
 
 -- "2. There is no coefficient."
 abbrev pub rule2 : ℕ → Verdict

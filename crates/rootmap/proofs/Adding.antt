@@ -4,7 +4,7 @@ use mathlib.Core.Bool.{Bool, false, _||_}
 use mathlib.Core.List.{List}
 use Prim.Native.Nat.{ℕ}
 use Rattle.rootmap.specs.Bits.{isSet, Added}
-use Rattle.rootmap.proofs.Booleans.{or-none, or-assoc}
+use Rattle.theory.proofs.Tests.{or-none, or-assoc}
 
 -- no bit is added
 pub added-none : (S : ℕ → Bool) (l : List ℕ) → ((r : ℕ) → S r ≡ false) → Added S l l

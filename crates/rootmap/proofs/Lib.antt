@@ -1,5 +1,4 @@
 -- Laws of maps.
-mod Booleans
 mod Or
 mod Adding
 mod SetBit

@@ -11,7 +11,7 @@ use lib.Seq.{take-all}
 use Rattle.theory.specs.Class.{class, isMember}
 use Rattle.theory.specs.ClassList.{members}
 use Rattle.classes.specs.Rule7.{classesOf}
-use Rattle.rootmap.proofs.Booleans.{or-none, or-assoc, and-none, and-or}
+use Rattle.theory.proofs.Tests.{or-none, or-assoc, and-none, and-or}
 
 -- r is below m and a member of one of the first i entries
 abbrev pub listedBelow : ℕ → List ℕ → List ℕ → ℕ → ℕ → ℕ → Bool

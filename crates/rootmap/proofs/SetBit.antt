@@ -13,7 +13,7 @@ use lib.Seq.{getD-set-same, getD-set-other}
 use Rattle.theory.specs.RootMap.{bit}
 use Rattle.theory.proofs.Tests.{or-right}
 use Rattle.rootmap.specs.Bits.{isSet, Added}
-use Rattle.rootmap.proofs.Booleans.{or-none}
+use Rattle.theory.proofs.Tests.{or-none}
 use Rattle.rootmap.proofs.Or.{or-same, or-other, or-byte}
 
 -- the byte of residue r with its bit set

@@ -42,7 +42,8 @@ module _ (f : List ℤ) (p n slots levels marks : ℕ) where
       unfolding solverVerdict
       lengths-differ h =
           rw (
-            rule2-passes (length f) (λ z. omega arith), rule3-passes (length f) few,
+            rule2-passes (length f) (λ z. omega arith),
+            rule3-passes (length f) few,
             U .passes4,
             U .passes5,
             rule6-three-refuses slots levels marks h,
@@ -53,7 +54,8 @@ module _ (f : List ℤ) (p n slots levels marks : ℕ) where
       unfolding solverVerdict
       too-few-slots d e h =
           rw (
-            rule2-passes (length f) (λ z. omega arith), rule3-passes (length f) few,
+            rule2-passes (length f) (λ z. omega arith),
+            rule3-passes (length f) few,
             U .passes4,
             U .passes5,
             rule6-three-passes slots levels marks d e,
@@ -64,7 +66,8 @@ module _ (f : List ℤ) (p n slots levels marks : ℕ) where
       unfolding solverVerdict
       accepted d e h =
           rw (
-            rule2-passes (length f) (λ z. omega arith), rule3-passes (length f) few,
+            rule2-passes (length f) (λ z. omega arith),
+            rule3-passes (length f) few,
             U .passes4,
             U .passes5,
             rule6-three-passes slots levels marks d e,
@@ -102,7 +105,8 @@ module _ (f : List ℤ) (p n point : ℕ) where
       unfolding testVerdict
       point-refused h =
           rw (
-            rule2-passes (length f) (λ z. omega arith), rule3-passes (length f) few,
+            rule2-passes (length f) (λ z. omega arith),
+            rule3-passes (length f) few,
             U .passes4,
             U .passes5,
             rule8-refuses point (p ^ n) (rw (← U .power) h),
@@ -112,7 +116,8 @@ module _ (f : List ℤ) (p n point : ℕ) where
       unfolding testVerdict
       point-accepted h =
           rw (
-            rule2-passes (length f) (λ z. omega arith), rule3-passes (length f) few,
+            rule2-passes (length f) (λ z. omega arith),
+            rule3-passes (length f) few,
             U .passes4,
             U .passes5,
             rule8-passes point (p ^ n) (rw (← U .power) h),

@@ -1,13 +1,14 @@
 -- The solver and the test of a residue (01, "Lent lists, map and text" and "When the solver declines").
 use mathlib.Core.Bool.{Bool, true, false}
-use mathlib.Core.List.{List, [], _∷_, _++_, map}
+use mathlib.Core.List.{List, [], _∷_, map}
 use Prim.Native.Nat.{ℕ, _^_}
 use lib.IntN.{ℤ}
-use lib.ListN.{length, drop}
+use lib.ListN.{length}
 use Rattle.theory.specs.Polynomial.{roots}
 use Rattle.theory.specs.Class.{Class}
 use Rattle.theory.specs.Shortest.{shortest, count}
 use Rattle.theory.specs.Mark.{mark}
+pub use Rattle.refusal.specs.Rules.{filled}
 use Rattle.refusal.specs.Rules.{Verdict, passes, refuses, tried, rule2, rule3, rule6Three, rule8, rule11}
 use Rattle.numbers.specs.Modulus.{rule4, rule5}
 use Rattle.solver.specs.declared.Solved.{Solved}
@@ -40,11 +41,7 @@ unfoldable pub solvedOf : List ℤ → ℕ → ℕ → ℕ → ℕ → ℕ → S
 solvedOf f p n slots levels marks =
     foundOr (solverVerdict f p n slots levels marks) (length (solution f p n)) (count (roots f p n) p n)
 
--- "It uses the first k slots, k being the number of classes; later slots keep their content", and a refusal "alters no lent memory"
-abbrev pub filled : Verdict → List ℕ → List ℕ → List ℕ
-filled passes new old = new ++ drop (length new) old
-filled (refuses r) new old = old
-
+-- "It uses the first k slots, k being the number of classes; later slots keep their content": `filled` by the classes' residues and so on
 abbrev pub residuesOf : List Class → List ℕ
 residuesOf = map (λ (c : Class). c .residue)
 
@@ -53,6 +50,19 @@ levelsOf = map (λ (c : Class). c .level)
 
 abbrev pub marksOf : List ℤ → ℕ → ℕ → List ℕ
 marksOf f p n = map (mark f p n) (solution f p n)
+
+-- the residues, the levels and the marks after the call, from what the three lists held
+abbrev pub residuesAfter : List ℤ → ℕ → ℕ → List ℕ → List ℕ → List ℕ → List ℕ
+residuesAfter f p n residues levels marks =
+    filled (solverVerdict f p n (length residues) (length levels) (length marks)) (residuesOf (solution f p n)) residues
+
+abbrev pub levelsAfter : List ℤ → ℕ → ℕ → List ℕ → List ℕ → List ℕ → List ℕ
+levelsAfter f p n residues levels marks =
+    filled (solverVerdict f p n (length residues) (length levels) (length marks)) (levelsOf (solution f p n)) levels
+
+abbrev pub marksAfter : List ℤ → ℕ → ℕ → List ℕ → List ℕ → List ℕ → List ℕ
+marksAfter f p n residues levels marks =
+    filled (solverVerdict f p n (length residues) (length levels) (length marks)) (marksOf f p n) marks
 
 -- the rules of the test of a residue
 unfoldable pub testVerdict : List ℤ → ℕ → ℕ → ℕ → Verdict

@@ -3,12 +3,12 @@ ghost use mathlib.Core.Path.{_≡_};
 ghost use Prim.Native.Nat.{_≤_, _<_, min};
 ghost use lib.ListN.{length};
 ghost use Rattle.numbers.proofs.Rules.{Usable};
-ghost use Rattle.solver.specs.Solve.{solution, solverVerdict, solvedOf, filled, residuesOf, levelsOf, marksOf, testedOf};
+ghost use Rattle.solver.specs.Solve.{solvedOf, residuesAfter, levelsAfter, marksAfter, testedOf};
 use numbers::Modulus;
 use refusal::Refusal;
 
-mod classes;
 mod digits;
+mod lists;
 mod mark;
 mod polynomial;
 mod reduce;
@@ -36,14 +36,11 @@ pub fn solve(
     ensures answer { λ r. ⌜ r ≡ solvedOf (now (coefficients .entry)) p n
         (length (now (residues .entry))) (length (now (levels .entry))) (length (now (marks .entry))) ⌝ }
     ensures residues { λ _. ⌜ now (residues .exit)
-        ≡ filled (solverVerdict (now (coefficients .entry)) p n (length (now (residues .entry))) (length (now (levels .entry)))
-        (length (now (marks .entry)))) (residuesOf (solution (now (coefficients .entry)) p n)) (now (residues .entry)) ⌝ }
+        ≡ residuesAfter (now (coefficients .entry)) p n (now (residues .entry)) (now (levels .entry)) (now (marks .entry)) ⌝ }
     ensures levels { λ _. ⌜ now (levels .exit)
-        ≡ filled (solverVerdict (now (coefficients .entry)) p n (length (now (residues .entry))) (length (now (levels .entry)))
-        (length (now (marks .entry)))) (levelsOf (solution (now (coefficients .entry)) p n)) (now (levels .entry)) ⌝ }
+        ≡ levelsAfter (now (coefficients .entry)) p n (now (residues .entry)) (now (levels .entry)) (now (marks .entry)) ⌝ }
     ensures marks { λ _. ⌜ now (marks .exit)
-        ≡ filled (solverVerdict (now (coefficients .entry)) p n (length (now (residues .entry))) (length (now (levels .entry)))
-        (length (now (marks .entry)))) (marksOf (now (coefficients .entry)) p n) (now (marks .entry)) ⌝ }
+        ≡ marksAfter (now (coefficients .entry)) p n (now (residues .entry)) (now (levels .entry)) (now (marks .entry)) ⌝ }
 {
     if coefficients.len() == 0 {
         return Solved::Refused(Refusal::NoCoefficient);
@@ -79,14 +76,11 @@ fn solve_modulo(
     ensures answer { λ r. ⌜ r ≡ solvedOf (now (coefficients .entry)) p n
         (length (now (residues .entry))) (length (now (levels .entry))) (length (now (marks .entry))) ⌝ }
     ensures residues { λ _. ⌜ now (residues .exit)
-        ≡ filled (solverVerdict (now (coefficients .entry)) p n (length (now (residues .entry))) (length (now (levels .entry)))
-        (length (now (marks .entry)))) (residuesOf (solution (now (coefficients .entry)) p n)) (now (residues .entry)) ⌝ }
+        ≡ residuesAfter (now (coefficients .entry)) p n (now (residues .entry)) (now (levels .entry)) (now (marks .entry)) ⌝ }
     ensures levels { λ _. ⌜ now (levels .exit)
-        ≡ filled (solverVerdict (now (coefficients .entry)) p n (length (now (residues .entry))) (length (now (levels .entry)))
-        (length (now (marks .entry)))) (levelsOf (solution (now (coefficients .entry)) p n)) (now (levels .entry)) ⌝ }
+        ≡ levelsAfter (now (coefficients .entry)) p n (now (residues .entry)) (now (levels .entry)) (now (marks .entry)) ⌝ }
     ensures marks { λ _. ⌜ now (marks .exit)
-        ≡ filled (solverVerdict (now (coefficients .entry)) p n (length (now (residues .entry))) (length (now (levels .entry)))
-        (length (now (marks .entry)))) (marksOf (now (coefficients .entry)) p n) (now (marks .entry)) ⌝ }
+        ≡ marksAfter (now (coefficients .entry)) p n (now (residues .entry)) (now (levels .entry)) (now (marks .entry)) ⌝ }
 {
     let slots = residues.len();
     if slots != levels.len() || slots != marks.len() {
@@ -101,12 +95,12 @@ fn solve_modulo(
         return Solved::Refused(Refusal::TooFewSlots(k));
     }
     sort::sort(&mut codes, k);
-    classes::write_residues(&codes, k, residues);
-    classes::write_levels(&codes, k, levels);
+    lists::write_residues(&codes, k, residues);
+    lists::write_levels(&codes, k, levels);
     mark::write_marks(&codes, k, mark::derivative(g, c, p), c - 1, p, marks);
     Solved::Found {
         classes: k,
-        roots: classes::root_count(&codes, k, p, n),
+        roots: lists::root_count(&codes, k, p, n),
     }
 }
 

@@ -18,7 +18,7 @@ use Rattle.numbers.proofs.Rules.{Usable, usable, modulus-passes}
 use Rattle.solver.specs.declared.Solved.the-variants.{Found, Refused}
 use Rattle.solver.specs.Solve.{solution, solverVerdict, solvedOf, foundOr, filled, residuesOf, levelsOf}
 use Rattle.classes.proofs.Entries.{classes-of-parts}
-use Rattle.stepping.specs.Call.{Input, Accepted, residuesAfter, levelsAfter, firstSlots}
+use Rattle.stepping.specs.Call.{Input, Accepted, residuesLeft, levelsLeft, firstSlots}
 
 -- an answer that is found comes of a verdict that passes
 record Came (v : Verdict) (a b k c : ℕ) : Type 0 where
@@ -82,12 +82,12 @@ module _ (x : Input) (k roots-found : ℕ) (A : Accepted x k roots-found) where
   front h old =
       rw (known .passed) (take-at (map h L) (drop (length (map h L)) old) k (length-map L h ∙ sym (known .first)))
 
-  pub first-residues : take k (residuesAfter x) ≡ residuesOf (solution (x .f) (x .p) (x .n))
-  unfolding residuesAfter
+  pub first-residues : take k (residuesLeft x) ≡ residuesOf (solution (x .f) (x .p) (x .n))
+  unfolding residuesLeft
   first-residues = front (λ (c : Class). c .residue) (x .residues)
 
-  pub first-levels : take k (levelsAfter x) ≡ levelsOf (solution (x .f) (x .p) (x .n))
-  unfolding levelsAfter
+  pub first-levels : take k (levelsLeft x) ≡ levelsOf (solution (x .f) (x .p) (x .n))
+  unfolding levelsLeft
   first-levels = front (λ (c : Class). c .level) (x .levels)
 
   -- the first k slots are the list
@@ -101,8 +101,8 @@ module _ (x : Input) (k roots-found : ℕ) (A : Accepted x k roots-found) where
       let n : length (take k l) ≡ k = ap length e ∙ length-map L h ∙ sym (known .first) in
       omega (arith, n, length-take k l, min-le-right k (length l))
 
-  pub residues-long : k ≤ length (residuesAfter x)
-  residues-long = long (λ (c : Class). c .residue) (residuesAfter x) first-residues
+  pub residues-long : k ≤ length (residuesLeft x)
+  residues-long = long (λ (c : Class). c .residue) (residuesLeft x) first-residues
 
-  pub levels-long : k ≤ length (levelsAfter x)
-  levels-long = long (λ (c : Class). c .level) (levelsAfter x) first-levels
+  pub levels-long : k ≤ length (levelsLeft x)
+  levels-long = long (λ (c : Class). c .level) (levelsLeft x) first-levels

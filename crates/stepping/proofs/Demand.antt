@@ -15,7 +15,7 @@ use Rattle.theory.proofs.ThirdDemand as theory
 use Rattle.theory.proofs.Classes.Agree.{shortest-agree, count-agree}
 use Rattle.theory.proofs.Polynomials.Roots.{at-most-D, all-zero-list}
 use Rattle.solver.specs.Solve.{solution, solverVerdict, residuesOf, levelsOf}
-use Rattle.stepping.specs.Call.{Input, Accepted, residuesAfter, levelsAfter, firstSlots}
+use Rattle.stepping.specs.Call.{Input, Accepted, residuesLeft, levelsLeft, firstSlots}
 use Rattle.stepping.specs.Demand.{Demand, Same, nextCall}
 use Rattle.stepping.specs.Row.{encode, rowAfter}
 use Rattle.stepping.proofs.Accept.{accepted-passes, accepted-number, accepted-count, accepted-usable, first-residues, first-levels}
@@ -72,7 +72,7 @@ module _ (x : Input) (k roots-found : ℕ) (A : Accepted x k roots-found) where
       }
 
   -- The function that makes the calls: rs and ls are the lists as the solver left them
-  module _ (rs ls : List ℕ) (same-rs : rs ≡ residuesAfter x) (same-ls : ls ≡ levelsAfter x) where
+  module _ (rs ls : List ℕ) (same-rs : rs ≡ residuesLeft x) (same-ls : ls ≡ levelsLeft x) where
     pub list-checked : Checked (x .p) (x .n) (take k rs) (take k ls) (x .p ^ x .n)
     unfolding solution
     list-checked =

@@ -6,7 +6,7 @@ use lib.IntN.{ℤ}
 use lib.ListN.{length, take}
 use Rattle.theory.specs.Class.{Class}
 use Rattle.solver.specs.declared.Solved.the-variants.{Found}
-use Rattle.solver.specs.Solve.{solution, solverVerdict, solvedOf, filled, residuesOf, levelsOf}
+use Rattle.solver.specs.Solve.{solvedOf, residuesAfter, levelsAfter}
 use Rattle.classes.specs.Rule7.{classesOf}
 
 -- coefficients, p and n, and the three lists as lent
@@ -23,17 +23,13 @@ pub record Accepted (x : Input) (k roots : ℕ) : Type 0 where
   pub answer : solvedOf (x .f) (x .p) (x .n) (length (x .residues)) (length (x .levels)) (length (x .marks)) ≡ Found k roots
 
 -- the residues and the levels after the call: the solver's contract, clauses `residues` and `levels`
-unfoldable pub residuesAfter : Input → List ℕ
-residuesAfter x =
-    filled (solverVerdict (x .f) (x .p) (x .n) (length (x .residues)) (length (x .levels)) (length (x .marks)))
-    (residuesOf (solution (x .f) (x .p) (x .n))) (x .residues)
+unfoldable pub residuesLeft : Input → List ℕ
+residuesLeft x = residuesAfter (x .f) (x .p) (x .n) (x .residues) (x .levels) (x .marks)
 
-unfoldable pub levelsAfter : Input → List ℕ
-levelsAfter x =
-    filled (solverVerdict (x .f) (x .p) (x .n) (length (x .residues)) (length (x .levels)) (length (x .marks)))
-    (levelsOf (solution (x .f) (x .p) (x .n))) (x .levels)
+unfoldable pub levelsLeft : Input → List ℕ
+levelsLeft x = levelsAfter (x .f) (x .p) (x .n) (x .residues) (x .levels) (x .marks)
 
 -- the classes in the first k slots
 unfoldable pub firstSlots : Input → ℕ → List Class
-unfolding residuesAfter levelsAfter
-firstSlots x k = classesOf (take k (residuesAfter x)) (take k (levelsAfter x))
+unfolding residuesLeft levelsLeft
+firstSlots x k = classesOf (take k (residuesLeft x)) (take k (levelsLeft x))

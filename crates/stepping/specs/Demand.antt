@@ -12,12 +12,12 @@ use Rattle.theory.specs.Rival.{Rival}
 use Rattle.theory.specs.Stepping.{Answer, row, claimed}
 use Rattle.theory.specs.ThirdDemand.{slot}
 use Rattle.classes.specs.Next.{nextOf, answerOf}
-use Rattle.stepping.specs.Call.{Input, residuesAfter, levelsAfter, firstSlots}
+use Rattle.stepping.specs.Call.{Input, residuesLeft, levelsLeft, firstSlots}
 
 -- next, called with "the solver's p and n and the first k slots of residues and levels as the solver left them": next's contract
 unfoldable pub nextCall : Input → ℕ → ℕ → Answer
-unfolding residuesAfter levelsAfter
-nextCall x k point = answerOf (nextOf (x .p) (x .n) (take k (residuesAfter x)) (take k (levelsAfter x)) point)
+unfolding residuesLeft levelsLeft
+nextCall x k point = answerOf (nextOf (x .p) (x .n) (take k (residuesLeft x)) (take k (levelsLeft x)) point)
 
 pub record Demand (x : Input) (k : ℕ) : Type 0 where
   pub slots : length (firstSlots x k) ≡ k
@@ -42,5 +42,5 @@ pub record Demand (x : Input) (k : ℕ) : Type 0 where
 pub record Same (x y : Input) (k count k′ count′ : ℕ) : Type 0 where
   pub same-k : k ≡ k′
   pub same-count : count ≡ count′
-  pub same-residues : take k (residuesAfter x) ≡ take k′ (residuesAfter y)
-  pub same-levels : take k (levelsAfter x) ≡ take k′ (levelsAfter y)
+  pub same-residues : take k (residuesLeft x) ≡ take k′ (residuesLeft y)
+  pub same-levels : take k (levelsLeft x) ≡ take k′ (levelsLeft y)

@@ -5,7 +5,7 @@ ghost use Prim.Native.Nat.{ℕ, _^_};
 ghost use lib.ListN.{length};
 ghost use Rattle.theory.specs.Polynomial.{roots as rootsOf};
 ghost use Rattle.theory.specs.Stepping.{row, following, claimed};
-ghost use Rattle.solver.specs.Solve.{solution, solverVerdict, solvedOf, filled, residuesOf, levelsOf, marksOf};
+ghost use Rattle.solver.specs.Solve.{solverVerdict, solvedOf, residuesAfter, levelsAfter, marksAfter};
 ghost use Rattle.classes.specs.Next.{nextOf, answerOf};
 ghost use Rattle.classes.proofs.Checks.{Checked};
 ghost use Rattle.stepping.specs.Row.{encode, rowAfter, Reached};
@@ -28,14 +28,11 @@ pub fn step_through(
     ensures answer { λ r. ⌜ r ≡ solvedOf (now (coefficients .entry)) p n
         (length (now (residues .entry))) (length (now (levels .entry))) (length (now (marks .entry))) ⌝ }
     ensures residues { λ _. ⌜ now (residues .exit)
-        ≡ filled (solverVerdict (now (coefficients .entry)) p n (length (now (residues .entry))) (length (now (levels .entry)))
-        (length (now (marks .entry)))) (residuesOf (solution (now (coefficients .entry)) p n)) (now (residues .entry)) ⌝ }
+        ≡ residuesAfter (now (coefficients .entry)) p n (now (residues .entry)) (now (levels .entry)) (now (marks .entry)) ⌝ }
     ensures levels { λ _. ⌜ now (levels .exit)
-        ≡ filled (solverVerdict (now (coefficients .entry)) p n (length (now (residues .entry))) (length (now (levels .entry)))
-        (length (now (marks .entry)))) (levelsOf (solution (now (coefficients .entry)) p n)) (now (levels .entry)) ⌝ }
+        ≡ levelsAfter (now (coefficients .entry)) p n (now (residues .entry)) (now (levels .entry)) (now (marks .entry)) ⌝ }
     ensures marks { λ _. ⌜ now (marks .exit)
-        ≡ filled (solverVerdict (now (coefficients .entry)) p n (length (now (residues .entry))) (length (now (levels .entry)))
-        (length (now (marks .entry)))) (marksOf (now (coefficients .entry)) p n) (now (marks .entry)) ⌝ }
+        ≡ marksAfter (now (coefficients .entry)) p n (now (residues .entry)) (now (levels .entry)) (now (marks .entry)) ⌝ }
     ensures answers { λ _. ⌜ now (answers .exit)
         ≡ rowAfter (solverVerdict (now (coefficients .entry)) p n (length (now (residues .entry))) (length (now (levels .entry)))
         (length (now (marks .entry)))) (claimed (rootsOf (now (coefficients .entry)) p n) p n start (length (now (answers .entry))))

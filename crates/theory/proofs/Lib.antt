@@ -4,6 +4,7 @@ pub mod Lists
 pub mod Numbers
 pub mod Range
 pub mod Passing
+pub mod Least
 pub mod Classes
 pub mod Polynomials
 pub mod RootMap

@@ -1,12 +1,13 @@
 -- Laws of the numbers of a range that pass a test.
 use mathlib.Core.Path.{_≡_, refl, sym, ap, ap₂, _∙_, subst}
 use mathlib.Core.Logic.{_⊎_, inl, inr}
-use mathlib.Core.Bool.{Bool, true, false, _||_}
+use mathlib.Core.Bool.{Bool, true, false, not, _||_}
 use mathlib.Core.List.{[], _∷_, _++_}
 use Prim.Native.Nat.{_-_, ℕ, zero, suc, _+_, _≤_, _<_}
 use native.Mathlib.Nat.{eq-or-lt-of-le, add-zero}
 use native.Mathlib.Omega.{arith}
 use lib.ListN.{length}
+use borrow.Author.Tests.{not-true, not-false}
 use Rattle.theory.specs.Lists.{In, here, there}
 use Rattle.theory.proofs.Lists.Names.{in-cons, in-nil}
 use Rattle.theory.specs.Range.{allBelow, least, passing}
@@ -43,13 +44,23 @@ all-same f g k h =
     (λ e. all-intro g k (λ i l. sym (h i l) ∙ all-elim f k i e l))
     (λ e. all-intro f k (λ i l. h i l ∙ all-elim g k i e l))
 
+-- "some" as "not all not"
+pub some-passes : (f : ℕ → Bool) (k i : ℕ) → i < k → f i ≡ true → not (allBelow (λ j. not (f j)) k) ≡ true
+some-passes f k i h e = rw (not-holding (allBelow (λ j. not (f j)) k) (λ a. contradiction (all-elim (λ j. not (f j)) k i a h) (rw e)))
+
+pub none-passes : (f : ℕ → Bool) (k : ℕ) → ((i : ℕ) → i < k → f i ≡ false) → not (allBelow (λ j. not (f j)) k) ≡ false
+none-passes f k h = rw (all-intro (λ j. not (f j)) k (λ i l. rw (h i l)))
+
+pub none-found : (f : ℕ → Bool) (k : ℕ) → not (allBelow (λ j. not (f j)) k) ≡ false → (i : ℕ) → i < k → f i ≡ false
+none-found f k e i h = not-true (f i) (all-elim (λ j. not (f j)) k i (not-false (allBelow (λ j. not (f j)) k) e) h)
+
 -- least
 
-least-on : (f : ℕ → Bool) (k i : ℕ) → f i ≡ true → least f (suc k) i ≡ i
+pub least-on : (f : ℕ → Bool) (k i : ℕ) → f i ≡ true → least f (suc k) i ≡ i
 unfolding least
 least-on f k i e = rw (e, least)
 
-least-off : (f : ℕ → Bool) (k i : ℕ) → f i ≡ false → least f (suc k) i ≡ least f k (suc i)
+pub least-off : (f : ℕ → Bool) (k i : ℕ) → f i ≡ false → least f (suc k) i ≡ least f k (suc i)
 unfolding least
 least-off f k i e = rw (e, least)
 

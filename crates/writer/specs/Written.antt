@@ -1,9 +1,10 @@
 -- What the writer answers, and what it leaves in the text (01, "Lent lists, map and text" and "When the solver declines").
-use mathlib.Core.List.{List, [], _∷_, _++_}
+use mathlib.Core.List.{List, [], _∷_}
 use Prim.Native.Nat.{ℕ, _+_, _*_}
 use lib.Dec.{ltb}
-use lib.ListN.{length, drop}
+use lib.ListN.{length}
 use Rattle.refusal.specs.declared.Refusal.the-variants.{BufferTooSmall}
+pub use Rattle.refusal.specs.Rules.{filled}
 use Rattle.refusal.specs.Rules.{Verdict, passes, refuses, rule, tried, rule6Three, rule12}
 use Rattle.numbers.specs.Modulus.{rule4, rule5}
 use Rattle.classes.specs.Rule7.{classesOf, rule7Marked}
@@ -14,11 +15,6 @@ use Rattle.writer.specs.declared.Written.the-variants.{Bytes, Refused}
 abbrev pub bytesOr : Verdict → ℕ → Written
 bytesOr passes bytes = Bytes bytes
 bytesOr (refuses r) bytes = Refused r
-
--- "Buffer bytes after the last line keep their content", and a refusal "alters no lent memory"
-abbrev pub filled : Verdict → List ℕ → List ℕ → List ℕ
-filled passes new old = new ++ drop (length new) old
-filled (refuses r) new old = old
 
 -- the writer's rules, given the length of the buffer
 unfoldable pub writerVerdict : ℕ → ℕ → List ℕ → List ℕ → List ℕ → ℕ → Verdict

@@ -2,7 +2,7 @@
 use mathlib.Core.Path.{_≡_, sym, _∙_}
 use borrow.Author.Needs.{needs}
 use lib.Seq.{length-take-le}
-use Rattle.stepping.specs.Call.{Input, Accepted, residuesAfter, levelsAfter}
+use Rattle.stepping.specs.Call.{Input, Accepted, residuesLeft, levelsLeft}
 use Rattle.stepping.proofs.Accept.{refused-verdict, residues-long, levels-long}
 use Rattle.stepping.proofs.Demand.{list-checked, row-left}
 use Rattle.stepping.proofs.step_through.Statement.{statement}
@@ -25,12 +25,12 @@ module _ (c : tie.After-solve) where
         marks = call .args .marks .now;
       }
 
-  residues-are : c .solve .last .1 .1 .1 .0 ≡ residuesAfter input
-  unfolding residuesAfter
+  residues-are : c .solve .last .1 .1 .1 .0 ≡ residuesLeft input
+  unfolding residuesLeft
   residues-are = c .solve .ensures .1 .0
 
-  levels-are : c .solve .last .1 .1 .1 .1 .0 ≡ levelsAfter input
-  unfolding levelsAfter
+  levels-are : c .solve .last .1 .1 .1 .1 .0 ≡ levelsLeft input
+  unfolding levelsLeft
   levels-are = c .solve .ensures .1 .1 .0
 
 module _ (c : tie.After-classes) where

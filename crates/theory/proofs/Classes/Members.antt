@@ -1,8 +1,8 @@
 -- The members of a list of classes, as a set.
 use mathlib.Core.Path.{_≡_, refl}
 use mathlib.Core.Logic.{_⊎_, inl, inr}
-use mathlib.Core.Bool.{Bool, true, false≢true}
-use mathlib.Core.List.{List, [], _∷_}
+use mathlib.Core.Bool.{Bool, true, false, _||_, false≢true}
+use mathlib.Core.List.{List, [], _∷_, _++_}
 use Prim.Native.Nat.{ℕ, _-_, _%_, _^_, _<_}
 use native.Mathlib.Omega.{arith}
 use borrow.Author.Tests.{eqb-true, eq-eqb}
@@ -51,3 +51,18 @@ rival-members S p n R rival r h =
 pub rival-from : (S : ℕ → Bool) (p n : ℕ) (R : List Class) → Rival S p n R → (q : ℕ) → from (members p R) p n q ≡ from S p n q
 unfolding from
 rival-from S p n R rival q = passing-same (members p R) S (p ^ n - q) q (λ r l b. rival-members S p n R rival r (omega arith))
+
+-- the members with one class more
+pub members-snoc : (p : ℕ) (l : List Class) (c : Class) (r : ℕ) → members p (l ++ (c ∷ [])) r ≡ (members p l r || isMember p c r)
+unfolding members
+members-snoc p [] c r = go (isMember p c r) refl
+  where
+    go : (b : Bool) → isMember p c r ≡ b → (isMember p c r || false) ≡ isMember p c r
+    go true e = rw e
+    go false e = rw e
+members-snoc p (d ∷ l) c r = go (members-snoc p l c r) (isMember p d r) refl
+  where
+    go : members p (l ++ (c ∷ [])) r ≡ (members p l r || isMember p c r) → (b : Bool) → isMember p d r ≡ b
+        → (isMember p d r || members p (l ++ (c ∷ [])) r) ≡ (isMember p d r || members p l r || isMember p c r)
+    go ih true e = rw e
+    go ih false e = rw e ih

@@ -5,11 +5,14 @@ use mathlib.Core.Bool.{Bool, true, false}
 use mathlib.Core.List.{List, [], _∷_, map}
 use Prim.Native.Nat.{ℕ, zero, suc, _^_, _<_}
 use native.Mathlib.Omega.{arith}
+use lib.ListN.{length}
 use Rattle.theory.specs.Lists.{In, here, there, Permutation}
 use Rattle.theory.specs.Range.{passing}
-use Rattle.theory.specs.Class.{Class}
+use Rattle.theory.specs.Class.{Class, class}
+use Rattle.theory.specs.ThirdDemand.{slot}
 use Rattle.theory.specs.Shortest.{isListed, largest, shortest}
 use Rattle.theory.proofs.Lists.Names.{in-cons, in-nil, perm-sym}
+use Rattle.theory.proofs.Lists.Index.{in-at}
 use Rattle.theory.proofs.Lists.Map.{in-map}
 use Rattle.theory.proofs.Lists.Permutation.{perm-in}
 use Rattle.theory.proofs.Range.{passing-on, passing-off, passing-sound}
@@ -65,3 +68,10 @@ rising-same (c ∷ l) (d ∷ m) rl rm f g =
 -- so a rising permutation is the list itself
 pub rising-perm : (l m : List Class) → Rising l → Rising m → Permutation l m → l ≡ m
 rising-perm l m rl rm d = rising-same l m rl rm (λ c u. perm-in d u) (λ c u. perm-in (perm-sym d) u)
+
+-- entries of a rising list, by their index
+pub rising-at : (L : List Class) → Rising L → (i j : ℕ) → i < j → j < length L → slot L i .residue < slot L j .residue
+rising-at [] R i j l h = absurd (omega arith)
+rising-at (c ∷ L) R i zero l h = absurd (omega arith)
+rising-at (c ∷ L) R zero (suc j) l h = R .0 (slot L j) (in-at L j (class 0 0) (omega arith))
+rising-at (c ∷ L) R (suc i) (suc j) l h = rising-at L (R .1) i j (omega arith) (omega arith)

@@ -1,20 +1,13 @@
--- The least number that passes a test, from its two properties; of two tests, the smaller least.
-use mathlib.Core.Path.{_≡_}
+-- The least number of a range that passes a test, from its two properties; of two tests, the smaller least.
+use mathlib.Core.Path.{_≡_, refl, sym, ap, _∙_}
 use mathlib.Core.Bool.{Bool, true, false, _||_}
-use Prim.Native.Nat.{ℕ, suc, _+_, _≤_, _<_, min}
+use mathlib.Core.List.{List, _∷_}
+use Prim.Native.Nat.{ℕ, zero, suc, _+_, _≤_, _<_, min}
 use native.Mathlib.Decide.{decLt, decLe}
 use native.Mathlib.Omega.{arith}
-use Rattle.theory.specs.Range.{least}
+use Rattle.theory.specs.Range.{least, passing}
 use Rattle.theory.proofs.Tests.{contradiction, or-left, or-right}
-use Rattle.theory.proofs.Range.{before-least, least-range, least-found}
-
-pub least-on : (f : ℕ → Bool) (k i : ℕ) → f i ≡ true → least f (suc k) i ≡ i
-unfolding least
-least-on f k i e = rw (e, least)
-
-pub least-off : (f : ℕ → Bool) (k i : ℕ) → f i ≡ false → least f (suc k) i ≡ least f k (suc i)
-unfolding least
-least-off f k i e = rw (e, least)
+use Rattle.theory.proofs.Range.{least-on, least-off, before-least, least-range, least-found, passing-on, passing-off}
 
 -- nothing before j passes, and j does if it is of the range
 pub least-is : (f : ℕ → Bool) (k i j : ℕ) → i ≤ j → j ≤ i + k → ((x : ℕ) → i ≤ x → x < j → f x ≡ false) → (j < i + k → f j ≡ true)
@@ -61,3 +54,17 @@ least-or f g k i = least-is (λ x. f x || g x) k i (min a b) (omega (arith, ra .
         pick (no l) =
             let e : min a b ≡ b = omega arith in
             rw e (or-right (f b) (g b) (least-found g k i (omega arith)))
+
+-- The numbers that pass begin with the least
+
+pub passing-first : (f : ℕ → Bool) (k i : ℕ) → least f k i < i + k → (rest : List ℕ) × (passing f k i ≡ least f k i ∷ rest)
+unfolding least
+passing-first f zero i h = absurd (omega arith)
+passing-first f (suc k) i h = go (passing-first f k (suc i)) (f i) refl
+  where
+    go : (least f k (suc i) < suc i + k → (rest : List ℕ) × (passing f k (suc i) ≡ least f k (suc i) ∷ rest)) → (b : Bool) → f i ≡ b
+        → (rest : List ℕ) × (passing f (suc k) i ≡ least f (suc k) i ∷ rest)
+    go ih true e = (passing f k (suc i), passing-on f k i e ∙ ap (λ (x : ℕ). x ∷ passing f k (suc i)) (sym (least-on f k i e)))
+    go ih false e =
+        let (rest, w) = ih (omega (arith, least-off f k i e)) in
+        (rest, passing-off f k i e ∙ w ∙ ap (λ (x : ℕ). x ∷ rest) (sym (least-off f k i e)))

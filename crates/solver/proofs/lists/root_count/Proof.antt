@@ -1,4 +1,4 @@
--- `solver::classes::root_count` meets its contract. The invariant: the sum is that of the first i classes.
+-- `solver::lists::root_count` meets its contract. The invariant: the sum is that of the first i classes.
 use mathlib.Core.Path.{ap₂, _≡_, refl, sym, ap, _∙_}
 use native.Mathlib.Omega.{arith}
 use borrow.Author.Needs.{needs}
@@ -8,8 +8,8 @@ use native.Mathlib.Nat.{pow-le-pow-right, le-trans}
 use Rattle.theory.proofs.Lists.Fill.{take-next}
 use Rattle.solver.proofs.Codes.{total-next}
 use Rattle.solver.specs.Code.{codeTotal}
-use Rattle.solver.proofs.classes.root_count.Statement.{statement}
-use Rattle.solver.proofs.classes.root_count.Tie as tie
+use Rattle.solver.proofs.lists.root_count.Statement.{statement}
+use Rattle.solver.proofs.lists.root_count.Tie as tie
 
 abbrev Inv-loop : tie.InvT-loop
 Inv-loop codes k p n sum₀ i₀ sum i = (i ≤ k) × (sum ≤ i * 4294967295) × (sum ≡ codeTotal p n (take i codes))

@@ -1,4 +1,4 @@
--- `solver::classes::write_levels` meets its contract. The invariant: the first i levels are written, and the others are as they were.
+-- `solver::lists::write_levels` meets its contract. The invariant: the first i levels are written, and the others are as they were.
 use mathlib.Core.Path.{_≡_, refl, ap, _∙_}
 use native.Mathlib.Omega.{arith}
 use borrow.Author.Needs.{needs}
@@ -7,8 +7,8 @@ use lib.ListN.{drop, set, take, getD, length}
 use mathlib.Core.List.{_++_, List, map}
 use Rattle.theory.proofs.Lists.Fill.{written-next, written-length}
 use Rattle.solver.specs.Code.{codeLevel}
-use Rattle.solver.proofs.classes.write_levels.Statement.{statement}
-use Rattle.solver.proofs.classes.write_levels.Tie as tie
+use Rattle.solver.proofs.lists.write_levels.Statement.{statement}
+use Rattle.solver.proofs.lists.write_levels.Tie as tie
 
 abbrev Inv-loop : tie.InvT-loop
 Inv-loop codes k levels₀ i₀ levels i = (i ≤ k) × (levels ≡ map codeLevel (take i codes) ++ drop i levels₀)
