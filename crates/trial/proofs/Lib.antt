@@ -1,0 +1,3 @@
+-- Lemmas that the proofs of several functions need.
+pub mod Prefixes
+pub mod Remainders

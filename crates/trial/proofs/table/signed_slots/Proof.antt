@@ -1,0 +1,15 @@
+-- `trial::table::signed_slots` meets its contract.
+use native.Mathlib.Omega.{arith}
+use lib.ListN.{length}
+use Rattle.trial.proofs.Prefixes.{prefix}
+use Rattle.trial.proofs.table.signed_slots.Statement.{statement}
+use Rattle.trial.proofs.table.signed_slots.Tie as tie
+
+returns : tie.Need-returns
+returns c = prefix (c .before .args .k) (c .before .args .a .now) (omega arith)
+
+returns-2 : tie.Need-returns-2
+returns-2 c = prefix (length (c .before .args .a .now)) (c .before .args .a .now) (omega arith)
+
+pub signed-slots-spec : {M : Type 1} → statement M
+signed-slots-spec = tie.close (tie.spec returns returns-2)
