@@ -1,0 +1,62 @@
+-- The fields that C gets for each case of an answer: 01's refusal number and place, 0 where nothing is refused, and the operation's
+-- values, 0 where it is refused.
+use Prim.Native.Nat.{ℕ}
+use Rattle.refusal.specs.Number.{numberOf, placeOf}
+use Rattle.solver.specs.declared.Solved.{Solved}
+use Rattle.solver.specs.declared.Solved.the-variants as solved
+use Rattle.solver.specs.declared.Tested.{Tested}
+use Rattle.solver.specs.declared.Tested.the-variants as tested
+use Rattle.classes.specs.declared.next.Next.{Next}
+use Rattle.classes.specs.declared.next.Next.the-variants as next
+use Rattle.rootmap.specs.declared.Mapped.{Mapped}
+use Rattle.rootmap.specs.declared.Mapped.the-variants as mapped
+use Rattle.rootmap.specs.declared.Counted.{Counted}
+use Rattle.rootmap.specs.declared.Counted.the-variants as counted
+use Rattle.text.specs.declared.Read.{Read}
+use Rattle.text.specs.declared.Read.the-variants as read
+use Rattle.writer.specs.declared.Written.{Written}
+use Rattle.writer.specs.declared.Written.the-variants as written
+use Rattle.capi.specs.declared.solve.SolveAnswer.{SolveAnswer}
+use Rattle.capi.specs.declared.is_root.TestAnswer.{TestAnswer}
+use Rattle.capi.specs.declared.next_root.NextAnswer.{NextAnswer}
+use Rattle.capi.specs.declared.fill_map.MapAnswer.{MapAnswer}
+use Rattle.capi.specs.declared.count_map.CountAnswer.{CountAnswer}
+use Rattle.capi.specs.declared.read_problem.ReadAnswer.{ReadAnswer}
+use Rattle.capi.specs.declared.write_classes.WriteAnswer.{WriteAnswer}
+
+-- "It returns k and the root count"
+abbrev pub solveAnswer : Solved → SolveAnswer
+solveAnswer (solved.Found k roots) = record { number = 0; place = 0; classes = k; roots = roots }
+solveAnswer (solved.Refused r) = record { number = numberOf r; place = placeOf r; classes = 0; roots = 0 }
+
+-- "says yes exactly if pⁿ divides f there": 1 for yes, 0 for no
+abbrev pub testAnswer : Tested → TestAnswer
+testAnswer tested.Yes = record { number = 0; place = 0; root = 1 }
+testAnswer tested.No = record { number = 0; place = 0; root = 0 }
+testAnswer (tested.Refused r) = record { number = numberOf r; place = placeOf r; root = 0 }
+
+-- "Next returns the least member at or after the point, or none": found is 1, or 0 for none
+abbrev pub nextAnswer : Next → NextAnswer
+nextAnswer (next.Root root) = record { number = 0; place = 0; found = 1; root = root }
+nextAnswer next.None = record { number = 0; place = 0; found = 0; root = 0 }
+nextAnswer (next.Refused r) = record { number = numberOf r; place = placeOf r; found = 0; root = 0 }
+
+-- the map is filled, or the call refused
+abbrev pub mapAnswer : Mapped → MapAnswer
+mapAnswer mapped.Filled = record { number = 0; place = 0 }
+mapAnswer (mapped.Refused r) = record { number = numberOf r; place = placeOf r }
+
+-- "counts the ones of its first pⁿ bits"
+abbrev pub countAnswer : Counted → CountAnswer
+countAnswer (counted.Ones ones) = record { number = 0; place = 0; ones = ones }
+countAnswer (counted.Refused r) = record { number = numberOf r; place = placeOf r; ones = 0 }
+
+-- "The reader gives p, n, c and a row of 65 coefficients", of which the row is lent
+abbrev pub readAnswer : Read → ReadAnswer
+readAnswer (read.Given p n count end) = record { number = 0; place = 0; p = p; n = n; count = count }
+readAnswer (read.Refused r) = record { number = numberOf r; place = placeOf r; p = 0; n = 0; count = 0 }
+
+-- the number of bytes written, or the refusal
+abbrev pub writeAnswer : Written → WriteAnswer
+writeAnswer (written.Bytes bytes) = record { number = 0; place = 0; bytes = bytes }
+writeAnswer (written.Refused r) = record { number = numberOf r; place = placeOf r; bytes = 0 }

@@ -1,0 +1,3 @@
+-- What the operations answer to C.
+pub mod Answers
+pub mod Row

@@ -1,0 +1,55 @@
+// The solver for C.
+ghost use mathlib.Core.Path.{_≡_};
+ghost use lib.ListN.{length};
+ghost use Rattle.solver.specs.Solve.{solvedOf, residuesAfter, levelsAfter, marksAfter};
+ghost use Rattle.capi.specs.Answers.{solveAnswer};
+use solver::Solved;
+
+#[repr(C)]
+pub struct SolveAnswer {
+    pub number: u32,
+    pub place: usize,
+    pub classes: usize,
+    pub roots: u64,
+}
+
+fn solve_answer(solved: Solved) -> SolveAnswer
+    ensures { λ r. ⌜ r ≡ solveAnswer solved ⌝ }
+{
+    match solved {
+        Solved::Found { classes, roots } => SolveAnswer {
+            number: 0,
+            place: 0,
+            classes,
+            roots,
+        },
+        Solved::Refused(r) => SolveAnswer {
+            number: r.number(),
+            place: r.place(),
+            classes: 0,
+            roots: 0,
+        },
+    }
+}
+
+// `solver::solve`. Rules 2, 3, 4, 5, 6 and 11; a refusal alters nothing.
+#[no_mangle]
+pub extern "C" fn wimpleclay_solve(
+    coefficients: &[i64],
+    p: u32,
+    n: u32,
+    residues: &mut [u32],
+    levels: &mut [u8],
+    marks: &mut [u8],
+) -> SolveAnswer
+    ensures answer { λ r. ⌜ r ≡ solveAnswer (solvedOf (now (coefficients .entry)) p n
+        (length (now (residues .entry))) (length (now (levels .entry))) (length (now (marks .entry)))) ⌝ }
+    ensures residues { λ _. ⌜ now (residues .exit)
+        ≡ residuesAfter (now (coefficients .entry)) p n (now (residues .entry)) (now (levels .entry)) (now (marks .entry)) ⌝ }
+    ensures levels { λ _. ⌜ now (levels .exit)
+        ≡ levelsAfter (now (coefficients .entry)) p n (now (residues .entry)) (now (levels .entry)) (now (marks .entry)) ⌝ }
+    ensures marks { λ _. ⌜ now (marks .exit)
+        ≡ marksAfter (now (coefficients .entry)) p n (now (residues .entry)) (now (levels .entry)) (now (marks .entry)) ⌝ }
+{
+    solve_answer(solver::solve(coefficients, p, n, residues, levels, marks))
+}

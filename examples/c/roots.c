@@ -1,0 +1,61 @@
+/* roots P N C0 C1 ..: prints the root classes of C0 + C1 x + .. modulo P^N, and then the roots one after the other.
+
+   Link with the library: cc roots.c $(pkg-config --cflags --libs wimpleclay) -o roots */
+#include <inttypes.h>
+#include <stdio.h>
+#include <stdlib.h>
+#include <wimpleclay.h>
+
+static int refused(uint32_t number, size_t place)
+{
+    fprintf(stderr, "refused: rule %" PRIu32 ", place %zu\n", number, place);
+    return 1;
+}
+
+/* Steps through the members of the k classes. */
+static int print_roots(uint32_t p, uint32_t n, const uint32_t *residues, const uint8_t *levels, size_t k)
+{
+    uint32_t point = 0;
+    for (;;) {
+        wimpleclay_next_answer next = wimpleclay_next_root(p, n, residues, k, levels, k, point);
+        if (next.number == WIMPLECLAY_POINT) /* the root before was the largest residue */
+            return 0;
+        if (next.number != WIMPLECLAY_ACCEPTED)
+            return refused(next.number, next.place);
+        if (!next.found)
+            return 0;
+        printf("%" PRIu32 "\n", next.root);
+        point = next.root + 1;
+    }
+}
+
+/* The number, or the largest one where it is larger: that is above every limit on p and n. */
+static uint32_t number(const char *word)
+{
+    unsigned long long x = strtoull(word, NULL, 10);
+    return x > UINT32_MAX ? UINT32_MAX : (uint32_t)x;
+}
+
+int main(int argc, char **argv)
+{
+    int64_t coefficients[WIMPLECLAY_MAX_COEFFICIENTS];
+    uint32_t residues[WIMPLECLAY_MAX_CLASSES];
+    uint8_t levels[WIMPLECLAY_MAX_CLASSES], marks[WIMPLECLAY_MAX_CLASSES];
+    if (argc < 4 || argc > 3 + WIMPLECLAY_MAX_COEFFICIENTS) {
+        fprintf(stderr, "usage: roots P N C0 C1 ..\n");
+        return 2;
+    }
+    uint32_t p = number(argv[1]), n = number(argv[2]);
+    size_t count = (size_t)argc - 3;
+    for (size_t i = 0; i < count; i++)
+        coefficients[i] = strtoll(argv[3 + i], NULL, 10);
+
+    wimpleclay_solve_answer solved = wimpleclay_solve(coefficients, count, p, n, residues, WIMPLECLAY_MAX_CLASSES,
+                                                      levels, WIMPLECLAY_MAX_CLASSES, marks, WIMPLECLAY_MAX_CLASSES);
+    if (solved.number != WIMPLECLAY_ACCEPTED)
+        return refused(solved.number, solved.place);
+    printf("%zu classes, %" PRIu64 " roots\n", solved.classes, solved.roots);
+    for (size_t i = 0; i < solved.classes; i++)
+        printf("%" PRIu32 " modulo %" PRIu32 "^%d%s\n", residues[i], p, levels[i], marks[i] ? ", simple" : "");
+    return print_roots(p, n, residues, levels, solved.classes);
+}

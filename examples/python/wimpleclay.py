@@ -1,0 +1,133 @@
+"""Roots of a polynomial modulo a prime power.
+
+The coefficients start with the constant one. x^2 - 1 modulo 2^4:
+
+>>> classes([-1, 0, 1], 2, 4)
+[Class(residue=1, level=3, mark=0), Class(residue=7, level=3, mark=0)]
+>>> roots([-1, 0, 1], 2, 4)
+[1, 7, 9, 15]
+>>> count([-1, 0, 1], 2, 4)
+4
+>>> is_root([-1, 0, 1], 2, 4, 9)
+True
+
+Roots from a point on come one at a time, so a polynomial may have many:
+
+>>> stream = iterate([0], 2, 31, start=5)
+>>> next(stream), next(stream)
+(5, 6)
+
+A refusal is an exception with the number of the rule and the place:
+
+>>> roots([-1, 0, 1], 4, 2)
+Traceback (most recent call last):
+    ...
+wimpleclay.Refused: rule 4, place 0
+
+The library is found as libwimpleclay.so on the loader's path, or where WIMPLECLAY_LIBRARY says.
+"""
+
+import ctypes
+import os
+from array import array
+from ctypes import POINTER, c_int64, c_size_t, c_uint8, c_uint32, c_uint64
+from typing import NamedTuple
+
+MAX_CLASSES = 64
+
+_library = ctypes.CDLL(os.environ.get("WIMPLECLAY_LIBRARY", "libwimpleclay.so"))
+
+
+class Refused(ValueError):
+    """A call that the library refused: the number of the rule, and the place."""
+
+    def __init__(self, number, place):
+        super().__init__(f"rule {number}, place {place}")
+        self.number = number
+        self.place = place
+
+
+class Class(NamedTuple):
+    """The residues congruent to residue modulo p^level; mark is 1 if p does not divide the derivative there."""
+
+    residue: int
+    level: int
+    mark: int
+
+
+def _function(name, values, arguments):
+    """The library's function, whose answer has these values after number and place; a list is a pointer and a length."""
+    fields = [("number", c_uint32), ("place", c_size_t), *values]
+    function = getattr(_library, "wimpleclay_" + name)
+    function.restype = type(name, (ctypes.Structure,), {"_fields_": fields})
+    function.argtypes = arguments
+
+    def call(*given):
+        for of, value in zip(arguments, given):
+            if of is c_uint32 and not 0 <= value < 2**32:
+                raise OverflowError(f"{value} is not from 0 to 2^32 - 1")
+        answer = function(*given)
+        if answer.number:
+            raise Refused(answer.number, answer.place)
+        return answer
+
+    return call
+
+
+def _list(of):
+    return POINTER(of), c_size_t
+
+
+_problem = (*_list(c_int64), c_uint32, c_uint32)
+_residues, _levels, _marks = _list(c_uint32), _list(c_uint8), _list(c_uint8)
+_solve = _function("solve", [("classes", c_size_t), ("roots", c_uint64)], (*_problem, *_residues, *_levels, *_marks))
+_is_root = _function("is_root", [("root", c_uint32)], (*_problem, c_uint32))
+_next_root = _function(
+    "next_root", [("found", c_uint32), ("root", c_uint32)], (c_uint32, c_uint32, *_residues, *_levels, c_uint32)
+)
+
+
+def _row(coefficients):
+    """The coefficients as they are lent; one that is no signed 64-bit integer is an OverflowError."""
+    row = array("q", coefficients)
+    return (c_int64 * len(row)).from_buffer(row), len(row)
+
+
+def _solved(coefficients, p, n):
+    """The solver's answer, and its lists."""
+    lists = [(of * MAX_CLASSES)() for of in (c_uint32, c_uint8, c_uint8)]
+    lent = [x for one in lists for x in (one, MAX_CLASSES)]
+    return _solve(*_row(coefficients), p, n, *lent), lists
+
+
+def classes(coefficients, p, n):
+    """The root classes, rising by residue: the shortest list there is."""
+    answer, lists = _solved(coefficients, p, n)
+    return [Class(*one) for one in zip(*lists)][: answer.classes]
+
+
+def count(coefficients, p, n):
+    """The number of roots."""
+    return _solved(coefficients, p, n)[0].roots
+
+
+def is_root(coefficients, p, n, point):
+    """Whether p^n divides the value at the point."""
+    return bool(_is_root(*_row(coefficients), p, n, point).root)
+
+
+def iterate(coefficients, p, n, start=0):
+    """The roots from start on, rising."""
+    answer, (residues, levels, _) = _solved(coefficients, p, n)
+    point, modulus = start, p**n
+    while point < modulus:
+        step = _next_root(p, n, residues, answer.classes, levels, answer.classes, point)
+        if not step.found:
+            return
+        yield step.root
+        point = step.root + 1
+
+
+def roots(coefficients, p, n):
+    """The roots, rising."""
+    return list(iterate(coefficients, p, n))

@@ -1,0 +1,182 @@
+/* wimpleclay.h: the roots of a polynomial modulo a prime power, as root classes.
+
+   A polynomial is given by 1 to 65 signed 64-bit coefficients, the constant one first. p is a prime from 2 to 65521,
+   n is at least 1, and p^n is at most 4294967295. A root is a residue r from 0 to p^n - 1 at which p^n divides the
+   polynomial's value. A class a/t, of residue a < p^t and level t from 0 to n, has as members the residues r below
+   p^n with r = a modulo p^t; there are p^(n-t). The solver gives the shortest list of classes whose members are
+   exactly the roots. Example: x^2 - 1 modulo 2^4 has the classes 1/3 and 7/3 and the four roots 1, 7, 9 and 15.
+
+   What is lent. A list, a map or a text is lent as a pointer and the number of its elements. The library allocates
+   nothing, keeps no pointer after a call and has no state: calls from several threads at once are fine as long as
+   they do not share memory that one of them writes.
+
+   What comes back. Each function returns a struct. `number` is 0 if the call was accepted and otherwise the number of
+   the rule that refused it (below), and `place` says where; the other fields are 0 in a refusal. A refused call
+   writes to no lent memory. An accepted call writes what is said at its function and nothing else.
+
+   What a caller must not do:
+   - pass a null or dangling pointer with a length other than 0 (with length 0 the pointer is not used and may be
+     null);
+   - pass a length that is larger than the memory lent, or a pointer that is not aligned for its type;
+   - let memory that a call writes (parameters without const) overlap any other memory lent to the same call;
+   - write to lent memory from another thread during the call.
+   All else is checked: no value in the lists, maps and texts and no number can lead to more than a refusal. */
+
+#ifndef WIMPLECLAY_H
+#define WIMPLECLAY_H
+
+#include <stddef.h>
+#include <stdint.h>
+
+#ifdef __cplusplus
+extern "C" {
+#endif
+
+/* Refusals *********************************************************************************************************/
+
+/* The rules, tried by rising number; the first that applies is the refusal. A function skips the rules about what it
+   does not take. The place is 0 where none is named. */
+enum wimpleclay_number {
+    WIMPLECLAY_ACCEPTED = 0,
+    /* The text departs from its form, or a number in it from its range; place: offset of the first faulty or
+       incomplete column, of a missing line end, or of the first byte past the end. */
+    WIMPLECLAY_FORM = 1,
+    WIMPLECLAY_NO_COEFFICIENT = 2,
+    WIMPLECLAY_TOO_MANY_COEFFICIENTS = 3, /* more than 65 */
+    WIMPLECLAY_NOT_PRIME = 4,             /* p is below 2, above 65535 or not prime */
+    WIMPLECLAY_PRECISION = 5,             /* n is 0, or p^n exceeds 4294967295 */
+    WIMPLECLAY_LENGTHS = 6,               /* the lists differ in length; place: the shortest length */
+    /* A given list has an entry with level above n, residue not below p^level, residue not above the entry before, a
+       member shared with an earlier entry, or (writer) a mark above 1; place: the first such index. */
+    WIMPLECLAY_ENTRY = 7,
+    WIMPLECLAY_POINT = 8,            /* the point is not below p^n */
+    WIMPLECLAY_MAP_TOO_LARGE = 9,    /* a map, or its count, is asked for with p^n above 524288 */
+    WIMPLECLAY_MAP_LENGTH = 10,      /* the map's length is not WIMPLECLAY_MAP_BYTES(p^n) */
+    WIMPLECLAY_TOO_FEW_SLOTS = 11,   /* the lent lists have fewer slots than are needed; place: the number needed */
+    WIMPLECLAY_BUFFER_TOO_SMALL = 12 /* the lent text has fewer bytes than are needed; place: the number needed */
+};
+
+/* Sizes ************************************************************************************************************/
+
+/* The most coefficients, and the slots of a row for wimpleclay_read_problem. */
+#define WIMPLECLAY_MAX_COEFFICIENTS 65
+
+/* No polynomial has more classes: lists of this many slots are never refused 11. */
+#define WIMPLECLAY_MAX_CLASSES 64
+
+/* The bytes of a root map, given p^n. */
+#define WIMPLECLAY_MAP_BYTES(modulus) (((size_t)(modulus) + 7) / 8)
+
+/* The bytes that wimpleclay_write_classes writes for this many classes. */
+#define WIMPLECLAY_TEXT_BYTES(classes) ((size_t)45 * ((size_t)(classes) + 1))
+
+/* The bytes of the longest problem text. */
+#define WIMPLECLAY_PROBLEM_BYTES 1399
+
+/* Solving **********************************************************************************************************/
+
+typedef struct {
+    uint32_t number;
+    size_t place;
+    size_t classes; /* k, the number of classes */
+    uint64_t roots; /* the number of roots: the sum of the classes' members */
+} wimpleclay_solve_answer;
+
+/* The root classes of the polynomial modulo p^n. The lent lists must have the same length. The k classes go into the
+   first k slots, rising by residue: its residue, its level, and its mark, which is 1 if p does not divide the
+   derivative at the residue and 0 otherwise. Later slots keep their content. The list is the shortest that there is,
+   the only one of its length, and no residue is a member of two of its classes. Rules 2, 3, 4, 5, 6 and 11 (place: k,
+   so a call with lists of length 0 asks for k). */
+wimpleclay_solve_answer wimpleclay_solve(const int64_t *coefficients, size_t coefficients_length, uint32_t p,
+                                         uint32_t n, uint32_t *residues, size_t residues_length, uint8_t *levels,
+                                         size_t levels_length, uint8_t *marks, size_t marks_length);
+
+typedef struct {
+    uint32_t number;
+    size_t place;
+    uint32_t root; /* 1 if the point is a root, 0 if it is not */
+} wimpleclay_test_answer;
+
+/* Whether p^n divides the polynomial's value at the point. Rules 2, 3, 4, 5 and 8. */
+wimpleclay_test_answer wimpleclay_is_root(const int64_t *coefficients, size_t coefficients_length, uint32_t p,
+                                          uint32_t n, uint32_t point);
+
+/* Stepping through the roots ***************************************************************************************/
+
+typedef struct {
+    uint32_t number;
+    size_t place;
+    uint32_t found; /* 1 if there is a member at or after the point, 0 if there is none */
+    uint32_t root;  /* the least such member, 0 if there is none */
+} wimpleclay_next_answer;
+
+/* The least member at or after the point of the classes in the two lists, as the solver left them or as given. All
+   entries are used: pass k for both lengths. To get every root in rising order start with the point 0 and go on with
+   root + 1, until found is 0; where p^n - 1 is a root, the call after it is refused 8. Rules 4, 5, 6, 7 and 8. */
+wimpleclay_next_answer wimpleclay_next_root(uint32_t p, uint32_t n, const uint32_t *residues, size_t residues_length,
+                                            const uint8_t *levels, size_t levels_length, uint32_t point);
+
+/* Root maps ********************************************************************************************************/
+
+typedef struct {
+    uint32_t number;
+    size_t place;
+} wimpleclay_map_answer;
+
+/* The root map of the classes in the two lists: residue r is the bit of weight 2^(r % 8) in byte r / 8, 1 for a
+   member. Every byte of the map is written, whatever it held; spare high bits of the last byte are 0. Rules 4, 5, 6,
+   7, 9 and 10. */
+wimpleclay_map_answer wimpleclay_fill_map(uint32_t p, uint32_t n, const uint32_t *residues, size_t residues_length,
+                                          const uint8_t *levels, size_t levels_length, uint8_t *map,
+                                          size_t map_length);
+
+typedef struct {
+    uint32_t number;
+    size_t place;
+    uint64_t ones; /* the ones among the first p^n bits */
+} wimpleclay_count_answer;
+
+/* The number of ones among the first p^n bits of a map; spare bits are ignored. Rules 4, 5, 9 and 10. */
+wimpleclay_count_answer wimpleclay_count_map(uint32_t p, uint32_t n, const uint8_t *map, size_t map_length);
+
+/* Texts ************************************************************************************************************/
+
+/* A text has decimal numbers right-justified in fixed columns, filled with blanks on the left; each line ends in byte
+   10. */
+
+typedef struct {
+    uint32_t number;
+    size_t place;
+    uint32_t p;
+    uint32_t n;
+    size_t count; /* the number of coefficients */
+} wimpleclay_read_answer;
+
+/* A problem from its text: a line of p, n and the coefficient count c in 11 columns each, then c lines of one
+   coefficient in 20 columns, then the end. The c coefficients go into the first c slots of the lent row and 0 into
+   the others up to 65; slots from 65 on keep their content. p and n are not judged: the solver does that. Rules 1 for
+   the first line, 2 and 3 for c, 1 for the rest, and then 11 with place 65 where the row has fewer than 65 slots,
+   whatever c is. */
+wimpleclay_read_answer wimpleclay_read_problem(const uint8_t *text, size_t text_length, int64_t *coefficients,
+                                               size_t coefficients_length);
+
+typedef struct {
+    uint32_t number;
+    size_t place;
+    size_t bytes; /* the number of bytes written */
+} wimpleclay_write_answer;
+
+/* The text of a list of classes: a line of p, n, the number of classes and the number of roots, then a line a class
+   of residue, level, number of members and mark; all columns are 11 wide. It is WIMPLECLAY_TEXT_BYTES(k) bytes, with
+   no 0 at its end; later bytes of the lent text keep their content. Rules 4, 5, 6, 7 and 12 (place: the bytes
+   needed). */
+wimpleclay_write_answer wimpleclay_write_classes(uint32_t p, uint32_t n, const uint32_t *residues,
+                                                 size_t residues_length, const uint8_t *levels, size_t levels_length,
+                                                 const uint8_t *marks, size_t marks_length, uint8_t *text,
+                                                 size_t text_length);
+
+#ifdef __cplusplus
+}
+#endif
+
+#endif

@@ -1,0 +1,12 @@
+/* Tests of the library through its C header, against plain trial of residues. It knows nothing of how the library works. */
+#include "check.h"
+#include "tests.h"
+
+int main(void)
+{
+    test_fixed_cases();
+    test_solving();
+    test_lists();
+    test_texts();
+    return finish();
+}

@@ -1,0 +1,127 @@
+/* Plain trial. */
+#include "reference.h"
+
+#include <string.h>
+
+uint64_t power(uint32_t p, uint32_t n)
+{
+    uint64_t m = 1;
+    for (uint32_t i = 0; i < n; i++) {
+        m *= p;
+        if (m > UINT32_MAX)
+            return 0;
+    }
+    return m;
+}
+
+uint32_t refused_modulus(uint32_t p, uint32_t n)
+{
+    if (p < 2 || p > 65535)
+        return 4;
+    for (uint32_t d = 2; d < p; d++)
+        if (p % d == 0)
+            return 4;
+    return n == 0 || power(p, n) == 0 ? 5 : 0;
+}
+
+/* x modulo m, from 0 to m - 1 */
+static uint64_t residue_of(int64_t x, uint64_t m)
+{
+    int64_t r = x % (int64_t)m;
+    return (uint64_t)(r < 0 ? r + (int64_t)m : r);
+}
+
+static uint64_t value(const int64_t *f, size_t count, uint64_t x, uint64_t m)
+{
+    uint64_t v = 0;
+    for (size_t i = count; i-- > 0;)
+        v = (v * x + residue_of(f[i], m)) % m;
+    return v;
+}
+
+static uint8_t mark(const int64_t *f, size_t count, uint64_t a, uint32_t p)
+{
+    uint64_t v = 0;
+    for (size_t i = count; i-- > 1;)
+        v = (v * (a % p) + i % p * residue_of(f[i], p)) % p;
+    return v != 0;
+}
+
+/* Whether all members of a/t have the bit set. */
+static int whole(const uint8_t *set, uint64_t a, uint64_t step, uint64_t m)
+{
+    for (uint64_t r = a; r < m; r += step)
+        if (!set[r])
+            return 0;
+    return 1;
+}
+
+void solve_by_trial(const int64_t *f, size_t count, uint32_t p, uint32_t n, list *s)
+{
+    uint64_t m = power(p, n);
+    memset(s, 0, sizeof *s);
+    for (uint64_t r = 0; r < m; r++) {
+        s->member[r] = value(f, count, r, m) == 0;
+        s->members += s->member[r];
+    }
+    for (uint64_t a = 0; a < m; a++)
+        for (uint32_t t = 0; t <= n; t++) {
+            uint64_t step = power(p, t);
+            if (a >= step || !whole(s->member, a, step, m) ||
+                (t > 0 && whole(s->member, a % (step / p), step / p, m)))
+                continue;
+            s->residues[s->k] = (uint32_t)a;
+            s->levels[s->k] = (uint8_t)t;
+            s->marks[s->k++] = mark(f, count, a, p);
+        }
+}
+
+/* Whether entries i and j of the list have a common member. */
+static int share(uint32_t p, uint32_t n, const list *l, size_t i, size_t j)
+{
+    uint64_t m = power(p, n), step = power(p, l->levels[j]);
+    for (uint64_t r = l->residues[i]; r < m; r += power(p, l->levels[i]))
+        if (r % step == l->residues[j])
+            return 1;
+    return 0;
+}
+
+static int faulty(uint32_t p, uint32_t n, const list *l, size_t i)
+{
+    if (l->levels[i] > n || l->residues[i] >= power(p, l->levels[i]))
+        return 1;
+    if (i > 0 && l->residues[i] <= l->residues[i - 1])
+        return 1;
+    for (size_t j = 0; j < i; j++)
+        if (share(p, n, l, i, j))
+            return 1;
+    return 0;
+}
+
+refusal refused_list(uint32_t p, uint32_t n, const list *l, size_t residues, size_t levels, const size_t *marks)
+{
+    refusal none = {0, 0}, modulus = {refused_modulus(p, n), 0};
+    size_t third = marks ? *marks : residues;
+    if (modulus.number)
+        return modulus;
+    if (residues != levels || residues != third) {
+        size_t least = residues < levels ? residues : levels;
+        return (refusal){6, third < least ? third : least};
+    }
+    for (size_t i = 0; i < residues; i++)
+        if (faulty(p, n, l, i) || (marks && l->marks[i] > 1))
+            return (refusal){7, i};
+    return none;
+}
+
+void fill_members(uint32_t p, uint32_t n, list *l)
+{
+    uint64_t m = power(p, n);
+    memset(l->member, 0, sizeof l->member);
+    l->members = 0;
+    for (size_t i = 0; i < l->k; i++)
+        for (uint64_t r = l->residues[i]; r < m; r += power(p, l->levels[i])) {
+            l->member[r] = 1;
+            l->members++;
+        }
+}

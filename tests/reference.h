@@ -1,0 +1,41 @@
+/* Plain trial: what the library must answer, worked out by going through all residues. */
+#ifndef REFERENCE_H
+#define REFERENCE_H
+
+#include <stddef.h>
+#include <stdint.h>
+
+/* The largest modulus that trial goes through. */
+enum { MOST = 2401 };
+
+typedef struct {
+    uint32_t number;
+    size_t place;
+} refusal;
+
+/* A list of classes with its members. */
+typedef struct {
+    size_t k;
+    uint32_t residues[MOST];
+    uint8_t levels[MOST];
+    uint8_t marks[MOST];
+    uint8_t member[MOST];
+    uint64_t members;
+} list;
+
+/* p to the power n, or 0 where that exceeds 4294967295. */
+uint64_t power(uint32_t p, uint32_t n);
+
+/* Rules 4 and 5. */
+uint32_t refused_modulus(uint32_t p, uint32_t n);
+
+/* The root classes of f: the whole classes that lie in no larger whole class, rising by residue. */
+void solve_by_trial(const int64_t *f, size_t count, uint32_t p, uint32_t n, list *s);
+
+/* Rules 4, 5, 6 and 7 for a list whose two or (marks not null) three parts have these lengths. */
+refusal refused_list(uint32_t p, uint32_t n, const list *l, size_t residues, size_t levels, const size_t *marks);
+
+/* Sets the members of an accepted list. */
+void fill_members(uint32_t p, uint32_t n, list *l);
+
+#endif

@@ -1,0 +1,101 @@
+/* wimpleclay_solve and wimpleclay_is_root on drawn polynomials, against trial. */
+#include "check.h"
+#include "reference.h"
+#include "tests.h"
+
+#include <string.h>
+#include <wimpleclay.h>
+
+static list s;
+
+/* Calls the solver with lists of this many slots. */
+static void solve_into(const loan *f, size_t count, uint32_t p, uint32_t n, size_t slots)
+{
+    loan residues = lend(NULL, slots * sizeof(uint32_t)), levels = lend(NULL, slots), marks = lend(NULL, slots);
+    wimpleclay_solve_answer a =
+        wimpleclay_solve(lent(f), count, p, n, lent(&residues), slots, lent(&levels), slots, lent(&marks), slots);
+    size_t k = slots < s.k ? 0 : s.k;
+    if (slots < s.k) {
+        expect(a.number == 11 && a.place == s.k && a.classes == 0 && a.roots == 0, "solve: too few slots");
+    } else {
+        expect(a.number == 0 && a.place == 0 && a.classes == s.k && a.roots == s.members, "solve: k and root count");
+        expect(memcmp(lent(&residues), s.residues, k * sizeof(uint32_t)) == 0, "solve: residues");
+        expect(memcmp(lent(&levels), s.levels, k) == 0, "solve: levels");
+        expect(memcmp(lent(&marks), s.marks, k) == 0, "solve: marks");
+    }
+    expect(kept_from(&residues, k * sizeof(uint32_t)) && kept_from(&levels, k) && kept_from(&marks, k),
+           "solve: other memory is kept");
+    expect(kept_from(f, 0), "solve: coefficients are kept");
+    end_loan(&residues);
+    end_loan(&levels);
+    end_loan(&marks);
+}
+
+static void test_polynomial(const int64_t *coefficients, size_t count, uint32_t p, uint32_t n)
+{
+    uint32_t m = (uint32_t)power(p, n);
+    loan f = lend(coefficients, count * sizeof *coefficients);
+    solve_by_trial(coefficients, count, p, n, &s);
+    expect(s.k <= WIMPLECLAY_MAX_CLASSES, "no more classes than WIMPLECLAY_MAX_CLASSES");
+    solve_into(&f, count, p, n, s.k);
+    solve_into(&f, count, p, n, s.k + 1 + draw(5));
+    if (s.k > 0)
+        solve_into(&f, count, p, n, draw(s.k));
+    for (uint32_t r = 0; r < m; r += 1 + (uint32_t)draw(1 + m / 16)) {
+        wimpleclay_test_answer a = wimpleclay_is_root(lent(&f), count, p, n, r);
+        expect(a.number == 0 && a.place == 0 && a.root == s.member[r], "is_root: agrees with trial");
+    }
+    wimpleclay_test_answer past = wimpleclay_is_root(lent(&f), count, p, n, m + (uint32_t)draw(9));
+    expect(past.number == 8 && past.place == 0 && past.root == 0, "is_root: point past the modulus");
+    expect(kept_from(&f, 0), "is_root: coefficients are kept");
+    end_loan(&f);
+}
+
+/* A coefficient: small, any, an extreme one, or a multiple of a power of p. */
+static int64_t draw_coefficient(uint32_t p, uint32_t n)
+{
+    switch (draw(5)) {
+    case 0:
+        return (int64_t)draw(9) - 4;
+    case 1:
+        return (int64_t)(draw(UINT64_MAX) - INT64_MAX);
+    case 2:
+        return draw(2) ? INT64_MIN : INT64_MAX;
+    case 3:
+        return 0;
+    default:
+        return (int64_t)(power(p, (uint32_t)draw(n + 1)) * draw(50));
+    }
+}
+
+/* Multiplies by x - a, so that there are roots. */
+static size_t times_root(int64_t *f, size_t count, uint32_t a, uint32_t m)
+{
+    f[count] = 0;
+    for (size_t i = count; i > 0; i--)
+        f[i] = (f[i - 1] % m - (int64_t)a * (f[i] % m)) % m;
+    f[0] = -(int64_t)a * (f[0] % m) % m;
+    return count + 1;
+}
+
+static void test_modulus(uint32_t p, uint32_t n, int polynomials)
+{
+    int64_t f[WIMPLECLAY_MAX_COEFFICIENTS];
+    uint32_t m = (uint32_t)power(p, n);
+    for (int i = 0; i < polynomials; i++) {
+        size_t count = i % 10 == 9 ? 65 - draw(3) : 1 + draw(5);
+        for (size_t j = 0; j < count; j++)
+            f[j] = draw_coefficient(p, n);
+        for (uint64_t roots = draw(6); roots > 0 && count < 65; roots--)
+            count = times_root(f, count, (uint32_t)draw(m), m);
+        test_polynomial(f, count, p, n);
+    }
+}
+
+void test_solving(void)
+{
+    static const uint32_t primes[] = {2, 3, 5, 7, 11, 13, 47};
+    for (size_t i = 0; i < sizeof primes / sizeof *primes; i++)
+        for (uint32_t n = 1; power(primes[i], n) <= MOST; n++)
+            test_modulus(primes[i], n, 40);
+}

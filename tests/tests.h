@@ -1,0 +1,10 @@
+/* The parts of the test program. */
+#ifndef TESTS_H
+#define TESTS_H
+
+void test_solving(void);
+void test_lists(void);
+void test_texts(void);
+void test_fixed_cases(void);
+
+#endif
