@@ -8,6 +8,8 @@ mod Sorted
 mod Listing
 mod Shift
 mod Zeros
+mod Linear
+mod Rows
 mod Room
 mod Settling
 mod Scanning

@@ -8,6 +8,7 @@ use lib.ListN.{getD}
 use Rattle.theory.specs.Prime.{divides}
 use Rattle.theory.specs.Polynomial.{value}
 use Rattle.theory.specs.Degree.{some, highest, valuation}
+use Rattle.theory.proofs.Polynomials.Differences.{difference}
 
 -- every coefficient is below m
 pub record Below (m : ℕ) (f : List ℕ) : Type 0 where
@@ -36,3 +37,7 @@ lowerOf p best x = elim (eqb x 0) [ true ↦ best | false ↦ min (valuation p x
 -- p divides the value at c
 unfoldable pub vanishes : ℕ → List ℕ → ℕ → Bool
 vanishes p f c = divides p (value f c)
+
+-- row c: entry j is the j-th difference of f at c modulo p
+pub record Row (p len : ℕ) (f : List ℕ) (c : ℕ) (t : List ℕ) : Type 0 where
+  pub at : (j : ℕ) → j < len → getD t j 0 ≡ difference p j (value f) c % p

@@ -7,6 +7,7 @@ ghost use Rattle.solver.specs.Solve.{solvedOf, residuesAfter, levelsAfte
 use numbers::Modulus;
 use refusal::Refusal;
 
+mod differences;
 mod digits;
 mod lists;
 mod mark;

@@ -4,24 +4,26 @@ ghost use Prim.Native.Nat.{ℕ, _+_, _-_, _*_, _%_, _^_, _≤_, _<_};
 ghost use lib.ListN.{length, getD, take};
 ghost use Rattle.theory.proofs.Polynomials.Taylor.{taylor as taylorOf, shifted as shiftedOf};
 ghost use Rattle.solver.specs.Table.{Below, Residues};
+use crate::least;
 
-// a + (c + y)·g(y): one step of Horner's rule on polynomials.
-fn horner_step(g: [u64; 65], cap: usize, a: u64, c: u64, m: u64) -> [u64; 65]
-    requires { ⌜ (0 < cap) × (cap ≤ 65) × (0 < m) × (m ≤ 4294967295) × (a < m) × (c < 65536) × Below m (take cap g) ⌝ }
-    ensures first { λ r. ⌜ getD r 0 0 ≡ (a + c * getD g 0 0) % m ⌝ }
-    ensures others { λ r. ⌜ ((i : ℕ) → 0 < i → i < cap → getD r i 0 ≡ (getD g (i - 1) 0 + c * getD g i 0) % m) ⌝ }
+// a + (c + y)·g(y), its first `cap` coefficients: one step of Horner's rule on polynomials. Lent, so that no table is copied.
+fn horner_step(g: &mut [u64], cap: usize, a: u64, c: u64, m: u64)
+    requires { ⌜ (0 < cap) × (cap ≤ length (now g)) × (0 < m) × (m ≤ 4294967295) × (a < m) × (c < 65536)
+        × ((i : ℕ) → i < cap → getD (now g) i 0 < m) ⌝ }
+    ensures first { λ _. ⌜ getD (now (g .exit)) 0 0 ≡ (a + c * getD (now (g .entry)) 0 0) % m ⌝ }
+    ensures others { λ _. ⌜ ((i : ℕ) → 0 < i → i < cap
+        → getD (now (g .exit)) i 0 ≡ (getD (now (g .entry)) (i - 1) 0 + c * getD (now (g .entry)) i 0) % m) ⌝ }
+    ensures beyond { λ _. ⌜ ((i : ℕ) → cap ≤ i → getD (now (g .exit)) i 0 ≡ getD (now (g .entry)) i 0) ⌝ }
 {
-    let mut h = g;
     let mut i = cap;
     while 1 < i {
         i -= 1;
-        h[i] = (g[i - 1] + c * g[i]) % m;
+        g[i] = (g[i - 1] + c * g[i]) % m;
     }
-    h[0] = (a + c * g[0]) % m;
-    h
+    g[0] = (a + c * g[0]) % m;
 }
 
-// h(c + y)
+// h(c + y). With k coefficients of h done there are k coefficients, so the next step makes at most k + 1.
 fn taylor(h: [u64; 65], len: usize, cap: usize, c: u64, m: u64) -> [u64; 65]
     requires { ⌜ (len ≤ 65) × (0 < cap) × (cap ≤ 65) × (0 < m) × (m ≤ 4294967295) × (c < 65536) × Below m (take len h) ⌝ }
     ensures { λ r. ⌜ Residues m cap r (taylorOf c (take len h)) ⌝ }
@@ -30,8 +32,7 @@ fn taylor(h: [u64; 65], len: usize, cap: usize, c: u64, m: u64) -> [u64; 65]
     let mut j = len;
     while 0 < j {
         j -= 1;
-        let next = horner_step(g, cap, h[j], c, m);
-        g = next;
+        horner_step(&mut g, least(cap, len - j), h[j], c, m);
     }
     g
 }

@@ -12,3 +12,4 @@ pub mod Degree
 pub mod Roots
 pub mod Signed
 pub mod Derivative
+pub mod Differences

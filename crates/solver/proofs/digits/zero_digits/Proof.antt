@@ -48,16 +48,17 @@ add-modulo c = record { fits = omega (arith, known c .small) }
 modulo-requires : tie.Need-modulo-requires
 modulo-requires c κs = (omega (arith, known c .small, c .before .pre .0), prime-pos (c .before .pre .1))
 
-add-search : tie.Need-add-search
-add-search c = record { fits = omega (arith, known (c .before) .small) }
+add-by-degree : tie.Need-add-by-degree
+add-by-degree c = record { fits = omega (arith, known (c .before) .small) }
 
-search-requires : tie.Need-search-requires
-search-requires c κs =
+by-degree-requires : tie.Need-by-degree-requires
+by-degree-requires c κs =
     let a = c .before .before .args in
     let pre = c .before .before .pre in
     let d = c .before .degree .result in
     let k = known (c .before) in
     let one : d + 1 - 1 ≡ d = omega arith in (
+      omega arith,
       omega (arith, k .small, pre .0),
       pre .1,
       pre .2,
@@ -70,13 +71,14 @@ returns : tie.Need-returns
 returns c =
     let a = c .before .before .before .args in
     let d = c .before .before .degree .result in
-    let s = c .search .ensures in (
+    let k = known (c .before .before) in
+    let s = c .by-degree .ensures in (
       s .0,
       s .1 ∙ ap (λ (test : ℕ → Bool). passing test (a .p) 0)
-          (low-vanishes (a .p) d (c .before .modulo .result) (take (a .len) (a .h)) (known (c .before .before) .degree) (reduced (c .before))),
+          (low-vanishes (a .p) d (c .before .modulo .result) (take (a .len) (a .h)) (k .degree) (reduced (c .before))),
     )
 
 pub zero-digits-spec : {M : Type 1} → statement M
 zero-digits-spec =
     tie.close
-    (tie.spec degree-requires add-modulo modulo-requires add-search search-requires returns)
+    (tie.spec degree-requires add-modulo modulo-requires add-by-degree by-degree-requires returns)

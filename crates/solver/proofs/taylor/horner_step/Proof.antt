@@ -1,22 +1,24 @@
--- `solver::taylor::horner_step` meets its contract. The invariant: the coefficients from i on are the new ones.
-use mathlib.Core.Path.{_≡_, refl, _∙_}
+-- `solver::taylor::horner_step` meets its contract. The invariant: the coefficients from i on are the new ones, the others the old ones.
+use mathlib.Core.Path.{_≡_, refl, ap, ap₂, _∙_}
 use native.Mathlib.Omega.{arith}
+use native.Mathlib.Nat.{mul-le-mul}
 use borrow.Author.Needs.{needs}
 use Prim.Native.Nat.{_%_, _<_, _-_, _*_, ℕ, _≤_, _+_}
 use lib.ListN.{length-set, length, getD}
-use native.Mathlib.Nat.{mul-le-mul}
 use lib.Seq.{getD-set-other, getD-set-same}
 use Rattle.theory.proofs.Lists.Fill.{entry-before}
-use Rattle.solver.proofs.Tables.{below-at}
 use Rattle.solver.proofs.taylor.horner_step.Statement.{statement}
 use Rattle.solver.proofs.taylor.horner_step.Tie as tie
 
 abbrev Inv-loop : tie.InvT-loop
-Inv-loop cap a c m g h₀ i₀ h i =
-    (1 ≤ i) × (i ≤ cap) × (length h ≡ 65) × ((k : ℕ) → i ≤ k → k < cap → getD h k 0 ≡ (getD g (k - 1) 0 + c * getD g k 0) % m)
+Inv-loop g₀ cap a c m i₀ g i =
+    (1 ≤ i) × (i ≤ cap) × (length g ≡ length g₀)
+    × ((k : ℕ) → i ≤ k → k < cap → getD g k 0 ≡ (getD g₀ (k - 1) 0 + c * getD g₀ k 0) % m)
+    × ((k : ℕ) → k < i → getD g k 0 ≡ getD g₀ k 0)
+    × ((k : ℕ) → cap ≤ k → getD g k 0 ≡ getD g₀ k 0)
 
 abbrev μ-loop : tie.MeasureT-loop
-μ-loop cap a c m g h₀ i₀ h i = i
+μ-loop g₀ cap a c m i₀ g i = i
 
 fits : (a c x m : ℕ) → a < m → x < m → m ≤ 4294967295 → c < 65536 → a + c * x < 18446744073709551616
 fits a c x m ha hx hm hc =
@@ -24,102 +26,128 @@ fits a c x m ha hx hm hc =
     let high : x ≤ 4294967294 = omega arith in
     omega (arith, mul-le-mul low high)
 
+-- a coefficient that is still to come is below m
+small : (c : tie.At-loop Inv-loop μ-loop) (k : ℕ) → k < c .loop .i → getD (c .loop .g) k 0 < c .before .args .m
+small c k h = rw (c .loop .inv .4 k h) (c .before .pre .6 k (omega arith))
+
 loop-holds : tie.Need-loop-holds Inv-loop μ-loop
-loop-holds c = search needs
+loop-holds c = (omega arith, omega arith, refl, λ k l u. absurd (omega arith), λ k l. refl, λ k l. refl)
 
 sub-i : tie.Need-sub-i Inv-loop μ-loop
 sub-i c = search needs
 
-sub-h : tie.Need-sub-h Inv-loop μ-loop
-sub-h c = search needs
+sub-g : tie.Need-sub-g Inv-loop μ-loop
+sub-g c = search needs
 
-mul-h : tie.Need-mul-h Inv-loop μ-loop
-mul-h c = search needs
+mul-g : tie.Need-mul-g Inv-loop μ-loop
+mul-g c = search needs
 
-array-read-h : tie.Need-array-read-h Inv-loop μ-loop
-array-read-h c = search needs
+slice-read-g : tie.Need-slice-read-g Inv-loop μ-loop
+slice-read-g c = search needs
 
-mul-h-2 : tie.Need-mul-h-2 Inv-loop μ-loop
-mul-h-2 c = search needs
+mul-g-2 : tie.Need-mul-g-2 Inv-loop μ-loop
+mul-g-2 c = search needs
 
-array-read-h-2 : tie.Need-array-read-h-2 Inv-loop μ-loop
-array-read-h-2 c = search needs
+slice-read-g-2 : tie.Need-slice-read-g-2 Inv-loop μ-loop
+slice-read-g-2 c = search needs
 
-mul-h-3 : tie.Need-mul-h-3 Inv-loop μ-loop
-mul-h-3 c =
-    let b = c .before in
+mul-g-3 : tie.Need-mul-g-3 Inv-loop μ-loop
+mul-g-3 c =
+    let b = c .before .before .before in
     let a = b .before .args in
-    let x = below-at (a .m) (a .cap) (b .loop .i - 1) (a .t1) (b .before .pre .6) (omega arith) in
+    let i = b .loop .i - 1 in
     record {
-      fits = omega
-          (arith, fits 0 (a .c) (getD (a .t1) (b .loop .i - 1) 0) (a .m) (omega arith) x (b .before .pre .3) (b .before .pre .5));
+      fits = omega (
+        arith,
+        fits 0 (a .c) (getD (b .loop .g) i 0) (a .m) (b .before .pre .2) (small b i (omega arith)) (b .before .pre .3) (b .before .pre .5),
+      );
     }
 
-add-h : tie.Need-add-h Inv-loop μ-loop
-add-h c =
-    let b = c .before in
+add-g : tie.Need-add-g Inv-loop μ-loop
+add-g c =
+    let b = c .before .before .before in
     let a = b .before .args in
-    let x = below-at (a .m) (a .cap) (b .loop .i - 1) (a .t1) (b .before .pre .6) (omega arith) in
-    let y = below-at (a .m) (a .cap) (b .loop .i - 1 - 1) (a .t1) (b .before .pre .6) (omega arith) in
+    let i = b .loop .i - 1 in
     record {
-      fits = fits (getD (a .t1) (b .loop .i - 1 - 1) 0) (a .c) (getD (a .t1) (b .loop .i - 1) 0) (a .m) y x (b .before .pre .3)
-          (b .before .pre .5);
+      fits = fits (getD (b .loop .g) (i - 1) 0) (a .c) (getD (b .loop .g) i 0) (a .m) (small b (i - 1) (omega arith))
+          (small b i (omega arith)) (b .before .pre .3) (b .before .pre .5);
     }
 
-rem-h : tie.Need-rem-h Inv-loop μ-loop
-rem-h c = search needs
+rem-g : tie.Need-rem-g Inv-loop μ-loop
+rem-g c = search needs
 
-mul-h-4 : tie.Need-mul-h-4 Inv-loop μ-loop
-mul-h-4 c = search needs
+mul-g-4 : tie.Need-mul-g-4 Inv-loop μ-loop
+mul-g-4 c = search needs
 
-array-write-h : tie.Need-array-write-h Inv-loop μ-loop
-array-write-h c = search needs
+slice-write-g : tie.Need-slice-write-g Inv-loop μ-loop
+slice-write-g c = search needs
 
 loop-less : tie.Need-loop-less Inv-loop μ-loop
 loop-less c = search needs
 
 loop-again : tie.Need-loop-again Inv-loop μ-loop
 loop-again c =
-    let b = c .before in
+    let b = c .before .before .before in
     let a = b .before .args in
     let i = b .loop .i in
-    let F : ℕ → ℕ = λ k. (getD (a .t1) (k - 1) 0 + a .c * getD (a .t1) k 0) % a .m in (
+    let l = b .loop .g in
+    let g = a .g .now in
+    let old = b .loop .inv .4 in
+    let F : ℕ → ℕ = λ k. (getD g (k - 1) 0 + a .c * getD g k 0) % a .m in
+    let v = (getD l (i - 1 - 1) 0 + a .c * getD l (i - 1) 0) % a .m in
+    let e : v ≡ F (i - 1) = ap₂ (λ (x y : ℕ). (x + a .c * y) % a .m) (old (i - 1 - 1) (omega arith)) (old (i - 1) (omega arith)) in (
       omega arith,
       omega arith,
       simp length-set (b .loop .inv .2),
-      entry-before (b .loop .h) i (a .cap) (F (i - 1)) 0 F (omega arith) (omega (arith, b .loop .inv .2)) refl (b .loop .inv .3),
+      entry-before l i (a .cap) v 0 F (omega arith) (omega (arith, b .loop .inv .2)) e (b .loop .inv .3),
+      λ k h. getD-set-other l (i - 1) k v 0 (λ q. omega arith) ∙ old k (omega arith),
+      λ k h. getD-set-other l (i - 1) k v 0 (λ q. omega arith) ∙ b .loop .inv .5 k h,
     )
 
-array-read-h-3 : tie.Need-array-read-h-3 Inv-loop μ-loop
-array-read-h-3 c = search needs
+slice-read-g-3 : tie.Need-slice-read-g-3 Inv-loop μ-loop
+slice-read-g-3 c = search needs
 
-mul-h-5 : tie.Need-mul-h-5 Inv-loop μ-loop
-mul-h-5 c =
-    let b = c .before in
+mul-g-5 : tie.Need-mul-g-5 Inv-loop μ-loop
+mul-g-5 c =
+    let b = c .before .before in
     let a = b .before .args in
-    let x = below-at (a .m) (a .cap) 0 (a .t1) (b .before .pre .6) (b .before .pre .0) in
-    record { fits = omega (arith, fits 0 (a .c) (getD (a .t1) 0 0) (a .m) (omega arith) x (b .before .pre .3) (b .before .pre .5)) }
+    record {
+      fits = omega (
+        arith,
+        fits 0 (a .c) (getD (b .loop .g) 0 0) (a .m) (b .before .pre .2) (small b 0 (omega arith)) (b .before .pre .3) (b .before .pre .5),
+      );
+    }
 
-add-h-2 : tie.Need-add-h-2 Inv-loop μ-loop
-add-h-2 c =
-    let b = c .before in
+add-g-2 : tie.Need-add-g-2 Inv-loop μ-loop
+add-g-2 c =
+    let b = c .before .before in
     let a = b .before .args in
-    let x = below-at (a .m) (a .cap) 0 (a .t1) (b .before .pre .6) (b .before .pre .0) in
-    record { fits = fits (a .a) (a .c) (getD (a .t1) 0 0) (a .m) (b .before .pre .4) x (b .before .pre .3) (b .before .pre .5) }
+    record {
+      fits = fits (a .a) (a .c) (getD (b .loop .g) 0 0) (a .m) (b .before .pre .4) (small b 0 (omega arith)) (b .before .pre .3)
+          (b .before .pre .5);
+    }
 
-rem-h-2 : tie.Need-rem-h-2 Inv-loop μ-loop
-rem-h-2 c = search needs
+rem-g-2 : tie.Need-rem-g-2 Inv-loop μ-loop
+rem-g-2 c = search needs
 
-array-write-h-2 : tie.Need-array-write-h-2 Inv-loop μ-loop
-array-write-h-2 c = search needs
+slice-write-g-2 : tie.Need-slice-write-g-2 Inv-loop μ-loop
+slice-write-g-2 c = search needs
+
+same-length : tie.Need-same-length Inv-loop μ-loop
+same-length c = search needs
 
 returns : tie.Need-returns Inv-loop μ-loop
 returns c =
-    let b = c .before in
+    let b = c .before .before in
     let a = b .before .args in
-    let v = (a .a + a .c * getD (a .t1) 0 0) % a .m in (
-      getD-set-same (b .loop .h) 0 v 0 (omega (arith, b .loop .inv .2)),
-      λ i low high. getD-set-other (b .loop .h) 0 i v 0 (λ e. omega arith) ∙ b .loop .inv .3 i (omega arith) high,
+    let l = b .loop .g in
+    let v = (a .a + a .c * getD l 0 0) % a .m in (
+      getD-set-same l 0 v 0 (omega (arith, b .loop .inv .2))
+          ∙ ap (λ (x : ℕ). (a .a + a .c * x) % a .m) (b .loop .inv .4 0 (omega arith)),
+      (
+        λ i low high. getD-set-other l 0 i v 0 (λ e. omega arith) ∙ b .loop .inv .3 i (omega arith) high,
+        λ i h. getD-set-other l 0 i v 0 (λ e. omega arith) ∙ b .loop .inv .5 i h,
+      ),
     )
 
 pub horner-step-spec : {M : Type 1} → statement M
@@ -130,21 +158,22 @@ horner-step-spec =
     μ-loop
     loop-holds
     sub-i
-    sub-h
-    mul-h
-    array-read-h
-    mul-h-2
-    array-read-h-2
-    mul-h-3
-    add-h
-    rem-h
-    mul-h-4
-    array-write-h
+    sub-g
+    mul-g
+    slice-read-g
+    mul-g-2
+    slice-read-g-2
+    mul-g-3
+    add-g
+    rem-g
+    mul-g-4
+    slice-write-g
     loop-less
     loop-again
-    array-read-h-3
-    mul-h-5
-    add-h-2
-    rem-h-2
-    array-write-h-2
+    slice-read-g-3
+    mul-g-5
+    add-g-2
+    rem-g-2
+    slice-write-g-2
+    same-length
     returns)

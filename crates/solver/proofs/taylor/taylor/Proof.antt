@@ -2,14 +2,14 @@
 use mathlib.Core.Path.{ap₂, _≡_, refl, _∙_}
 use native.Mathlib.Omega.{arith}
 use borrow.Author.Needs.{needs}
-use Prim.Native.Nat.{suc, _<_, _-_, ℕ, _≤_}
+use Prim.Native.Nat.{suc, _+_, _<_, _-_, ℕ, _≤_, min}
 use mathlib.Core.List.{_∷_, [], List}
-use lib.ListN.{length-take, drop-of-length-le, take, getD, drop, length}
+use lib.ListN.{length-take, length-drop, drop-of-length-le, take, getD, drop, length}
 use lib.Seq.{getD-take, length-take-le, drop-cons}
 use native.Mathlib.Nat.{min-le-left}
 use Rattle.theory.proofs.Polynomials.Taylor.{taylor}
 use Rattle.solver.specs.Table.{Residues}
-use Rattle.solver.proofs.Shift.{taylor-step, taylor-none}
+use Rattle.solver.proofs.Shift.{taylor-step-short, taylor-none}
 use Rattle.solver.proofs.Tables.{residues-below, below-at}
 use Rattle.theory.specs.Degree.{allZero}
 use Rattle.solver.proofs.taylor.taylor.Statement.{statement}
@@ -40,6 +40,15 @@ loop-holds c =
 sub-j : tie.Need-sub-j Inv-loop μ-loop
 sub-j c = search needs
 
+slice-aggregate-horner-step : tie.Need-slice-aggregate-horner-step Inv-loop μ-loop
+slice-aggregate-horner-step c = search needs
+
+sub-least : tie.Need-sub-least Inv-loop μ-loop
+sub-least c = search needs
+
+least-requires : tie.Need-least-requires Inv-loop μ-loop
+least-requires c κs = search needs
+
 mul-horner-step : tie.Need-mul-horner-step Inv-loop μ-loop
 mul-horner-step c = search needs
 
@@ -48,16 +57,19 @@ array-read-horner-step c = search needs
 
 horner-step-requires : tie.Need-horner-step-requires Inv-loop μ-loop
 horner-step-requires c κs =
-    let b = c .before in
+    let b = c .before .before .before in
     let a = b .before .args in
-    let pre = b .before .pre in (
-      pre .1,
-      pre .2,
+    let pre = b .before .pre in
+    let f = drop (b .loop .j) (take (a .len) (a .t1)) in
+    let n = c .least .ensures in
+    let below = residues-below (a .m) (a .cap) (b .loop .g) (taylor (a .c) f) (pre .3) (b .loop .inv .2) in (
+      omega (arith, n, pre .1),
+      omega (arith, n, pre .2, b .loop .inv .1),
       pre .3,
       pre .4,
       below-at (a .m) (a .len) (b .loop .j - 1) (a .t1) (pre .6) (omega arith),
       pre .5,
-      residues-below (a .m) (a .cap) (b .loop .g) (taylor (a .c) (drop (b .loop .j) (take (a .len) (a .t1)))) (pre .3) (b .loop .inv .2),
+      λ i h. below-at (a .m) (a .cap) i (b .loop .g) below (omega (arith, n)),
     )
 
 loop-less : tie.Need-loop-less Inv-loop μ-loop
@@ -65,15 +77,20 @@ loop-less c = search needs
 
 loop-again : tie.Need-loop-again Inv-loop μ-loop
 loop-again c =
-    let b = c .before .before in
+    let step = c .before .horner-step in
+    let done = step .ensures in
+    let b = c .before .before .before .before .before in
     let a = b .before .args in
     let j = b .loop .j in
-    let long : a .len ≤ length (a .t1) = search needs in (
+    let f = drop j (take (a .len) (a .t1)) in
+    let long : a .len ≤ length (a .t1) = search needs in
+    let n : c .before .before .least .result ≡ min (a .cap) (length f + 1) =
+    omega (arith, c .before .before .least .ensures, length-drop j (take (a .len) (a .t1)), length-take-le (a .len) (a .t1) long) in (
       omega arith,
-      search needs,
-      rw (one-more (a .len) j (a .t1) (c .before .loop-test .taken) (b .loop .inv .0) long)
-          (taylor-step (a .m) (a .cap) (getD (a .t1) (j - 1) 0) (a .c) (b .loop .g) (c .horner-step .result) (drop j (take (a .len) (a .t1)))
-          (b .loop .inv .2) (c .horner-step .ensures .0) (c .horner-step .ensures .1)),
+      step .kept .0 ∙ b .loop .inv .1,
+      rw (one-more (a .len) j (a .t1) (omega arith) (b .loop .inv .0) long)
+          (taylor-step-short (a .m) (a .cap) (getD (a .t1) (j - 1) 0) (a .c) (b .loop .g) (step .last .0) f (b .loop .inv .2)
+          (done .0) (λ i low high. done .1 .0 i low (omega (arith, n))) (λ i h. done .1 .1 i (omega (arith, n)))),
     )
 
 returns : tie.Need-returns Inv-loop μ-loop
@@ -90,6 +107,9 @@ taylor-spec =
     μ-loop
     loop-holds
     sub-j
+    slice-aggregate-horner-step
+    sub-least
+    least-requires
     mul-horner-step
     array-read-horner-step
     horner-step-requires
