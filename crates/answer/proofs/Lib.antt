@@ -1,0 +1,11 @@
+-- What the program prints, proved of the reader's, the solver's and the writer's contracts.
+pub mod Few
+pub mod Lengths
+pub mod Accepted
+pub mod Solved
+pub mod Read
+pub mod Fits
+pub mod Examples
+pub mod Prefix
+pub mod Enough
+pub mod Input
