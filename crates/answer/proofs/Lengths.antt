@@ -11,7 +11,7 @@ use Rattle.refusal.specs.Number.{numberOf, placeOf}
 use Rattle.columns.specs.Column.{column, lineEnd}
 use Rattle.classes.proofs.Entries.{classes-of-parts}
 use Rattle.writer.specs.Output.{line, classLines, outputText, refusalLine}
-use Rattle.writer.proofs.Columns.{column-length}
+use Rattle.columns.proofs.Length.{column-length}
 use Rattle.writer.proofs.Line.{line-length}
 use Rattle.writer.proofs.ClassLines.{lines-length}
 

@@ -4,11 +4,12 @@
 ghost use mathlib.Core.Path.{_≡_};
 ghost use mathlib.Core.Bool.{true};
 ghost use mathlib.Core.List.{[], _∷_, _++_};
-ghost use Prim.Native.Nat.{_+_, _*_, _≤_, _<_, min};
+ghost use Prim.Native.Nat.{_+_, _*_, _≤_, _<_};
 ghost use lib.ListN.{length, take};
 ghost use Rattle.solver.specs.Table.{degreeModulo, nonzeroModulo};
 ghost use Rattle.solver.specs.Recursion.{room, Node, Done};
 use crate::digits;
+use crate::least;
 use crate::polynomial;
 use crate::taylor;
 use crate::valuation;
@@ -31,16 +32,6 @@ fn put_whole(a: u64, t: u64, out: &mut [u64], k: usize) -> Settled
         k: k + 1,
         whole: true,
     }
-}
-
-// The smaller of the two.
-fn shorter(len: usize, e: u64) -> usize
-    ensures { λ r. ⌜ r ≡ min e len ⌝ }
-{
-    if e < len as u64 {
-        return e as usize;
-    }
-    len
 }
 
 // The class a/t, where q is p^t and g(y) is f(a + q·y) up to a power of p: its roots are the zeros of g modulo m = p^e.
@@ -96,7 +87,7 @@ fn scan(
     let found = digits::zero_digits(h, len, p);
     let zeros = found.digits;
     let count = found.count;
-    let cap = shorter(len, e);
+    let cap = least(e as usize, len);
     let mut at = k;
     let mut all = true;
     let mut i: usize = 0;

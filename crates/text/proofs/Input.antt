@@ -14,7 +14,8 @@ use Rattle.text.specs.Form.{coefficientRules, coefficientsAt, rowOf}
 use Rattle.text.specs.Form.{problemAt, problemOf}
 use Rattle.text.specs.Input.{coefficientLines, inputText}
 use Rattle.text.proofs.ReadBack.{FitsColumn, InRange}
-use Rattle.text.proofs.Placed.{column-length, signed-length, after, unsigned-placed, signed-placed, end-placed}
+use Rattle.columns.proofs.Length.{column-length, signed-length}
+use Rattle.text.proofs.Placed.{after, unsigned-placed, signed-placed, end-placed}
 use Rattle.text.proofs.Rows.{line-passes}
 use Rattle.text.proofs.FirstLine.{FirstLine, problem-read, whole-given}
 

@@ -3,63 +3,23 @@ use mathlib.Core.Path.{_≡_, refl, sym, ap, ap₂, _∙_}
 use mathlib.Core.Bool.{Bool, true, false}
 use mathlib.Core.List.{List, [], _∷_, _++_}
 use mathlib.Core.Option.{none, some}
-use Prim.Native.Nat.{ℕ, zero, suc, _+_, _-_, _*_, _/_, _%_, _^_, _≤_, _<_}
+use Prim.Native.Nat.{ℕ, _+_, _-_, _^_, _≤_, _<_}
 use native.Mathlib.Decide.{decLe}
 use native.Mathlib.Numerals.{add-one}
 use native.Mathlib.Omega.{arith}
 use borrow.Author.Tests.{leb-true, leb-false}
 use lib.Dec.{leb}
-use lib.IntN.{ℤ, pos, negsuc}
-use lib.ListN.{length, getD, take, drop, replicate, length-append, length-drop, length-replicate, take-append-drop, List·getD-eq-default}
+use lib.IntN.{ℤ}
+use lib.ListN.{length, getD, take, drop, length-append, length-drop, take-append-drop, List·getD-eq-default}
 use lib.Seq.{length-take-le, drop-drop, drop-cons, take-at, drop-at, getD-drop}
-use Rattle.columns.specs.Column.{blank, column, sign, minusColumn, signedColumn}
+use Rattle.columns.specs.Column.{column, signedColumn}
 use Rattle.text.specs.declared.column.Part.the-variants.{Fault}
 use Rattle.text.specs.Reading.{scan, unsignedOf, signedOf}
 use Rattle.text.specs.Text.{columnAt, unsignedValue, signedValue}
-use Rattle.text.proofs.Holds.{column-short, column-long, minus-short, minus-long}
+use Rattle.columns.proofs.Length.{column-length, signed-length}
 use Rattle.text.proofs.Values.{column-whole, column-incomplete}
 use Rattle.text.proofs.ReadBack.{FitsColumn, InRange, unsigned-reads-column, signed-reads-column, unsigned-is-column}
 use Rattle.text.proofs.ReadBack.{signed-is-column}
-
--- The writer's column of width w has w bytes
-
-snoc-length : (l : List ℕ) (b : ℕ) → length (l ++ b ∷ []) ≡ suc (length l)
-snoc-length [] b = refl
-snoc-length (a ∷ l) b = ap suc (snoc-length l b)
-
-pub column-length : (w x : ℕ) → length (column w x) ≡ w
-unfolding column
-column-length zero x = refl
-column-length (suc w) x = go (column-length w (x / 10)) (decLe x 9)
-  where
-    go : length (column w (x / 10)) ≡ w → Dec (x ≤ 9) → length (column (suc w) x) ≡ suc w
-    go ih (yes s) = ap length (column-short w x s) ∙ snoc-length (replicate w blank) (x + 48) ∙ ap suc (length-replicate w blank)
-    go ih (no s) =
-        let k : x ≡ x / 10 * 10 + x % 10 = omega arith in
-        ap (λ (z : ℕ). length (column (suc w) z)) k ∙ ap length (column-long w (x / 10) (x % 10) (omega arith) (omega arith))
-        ∙ snoc-length (column w (x / 10)) (x % 10 + 48) ∙ ap suc ih
-
-sign-length : (w : ℕ) → length (sign w) ≡ w
-unfolding sign
-sign-length zero = refl
-sign-length (suc w) = snoc-length (replicate w blank) 45 ∙ ap suc (length-replicate w blank)
-
-minus-length : (w x : ℕ) → length (minusColumn w x) ≡ w
-unfolding minusColumn
-minus-length zero x = refl
-minus-length (suc w) x = go (minus-length w (x / 10)) (decLe x 9)
-  where
-    go : length (minusColumn w (x / 10)) ≡ w → Dec (x ≤ 9) → length (minusColumn (suc w) x) ≡ suc w
-    go ih (yes s) = ap length (minus-short w x s) ∙ snoc-length (sign w) (x + 48) ∙ ap suc (sign-length w)
-    go ih (no s) =
-        let k : x ≡ x / 10 * 10 + x % 10 = omega arith in
-        ap (λ (z : ℕ). length (minusColumn (suc w) z)) k ∙ ap length (minus-long w (x / 10) (x % 10) (omega arith) (omega arith))
-        ∙ snoc-length (minusColumn w (x / 10)) (x % 10 + 48) ∙ ap suc ih
-
-pub signed-length : (w : ℕ) (z : ℤ) → length (signedColumn w z) ≡ w
-unfolding signedColumn
-signed-length w (pos x) = column-length w x
-signed-length w (negsuc k) = minus-length w (suc k)
 
 -- From a place on
 

@@ -16,7 +16,8 @@ use Rattle.text.specs.declared.column.Part.{Part}
 use Rattle.text.specs.declared.column.Part.the-variants.{Blanks, Minus, Number, Fault}
 use Rattle.text.specs.Reading.{afterDigit, step, scan, unsignedOf, signedOf}
 use Rattle.text.proofs.Steps.{step-blank, step-minus, step-of-digit, scan-next}
-use Rattle.text.proofs.Holds.{column-short, column-long, minus-short, minus-long, replicate-next, Holds, scan-holds}
+use Rattle.columns.proofs.Digits.{column-short, column-long, minus-short, minus-long}
+use Rattle.text.proofs.Holds.{replicate-next, Holds, scan-holds}
 
 -- What the writer's columns make
 

@@ -2,12 +2,12 @@
 use mathlib.Core.Path.{_≡_, refl, sym, ap, _∙_}
 use mathlib.Core.Bool.{Bool, true, false}
 use mathlib.Core.List.{List, [], _∷_, _++_, append-assoc}
-use Prim.Native.Nat.{ℕ, zero, suc, _-_, _/_, _%_, _≤_, _<_}
+use Prim.Native.Nat.{ℕ, suc, _-_, _/_, _%_, _≤_, _<_}
 use native.Mathlib.Numerals.{add-one}
 use native.Mathlib.Omega.{arith}
 use borrow.Author.Tests.{eqb-true, eqb-false, ltb-true, ltb-false, eq-eqb, ne-eqb}
 use lib.Dec.{eqb, ltb}
-use lib.ListN.{length, drop, set, replicate, length-set, length-append, length-replicate, replicate-append-replicate}
+use lib.ListN.{length, drop, set, replicate, length-set, replicate-append-replicate}
 use lib.Seq.{drop-cons, getD-set-same, drop-set-lt}
 use Rattle.columns.specs.Column.{column, blank, digitByte}
 use Rattle.writer.specs.Place.{leftOf, leftByte}
@@ -58,15 +58,6 @@ left-step w y = go (eqb y 0) refl
     go false e =
         let some = eqb-false y 0 e in
         some-digit (suc w) y some ∙ column-left w y ∙ ap (λ (d : ℕ). leftOf w (y / 10) ++ (d ∷ [])) (byte-digit y some)
-
-pub column-length : (w x : ℕ) → length (column w x) ≡ w
-unfolding column
-column-length zero x = refl
-column-length (suc w) x = go (column-length w (x / 10)) (ltb x 10) refl
-  where
-    go : length (column w (x / 10)) ≡ w → (b : Bool) → ltb x 10 ≡ b → length (column (suc w) x) ≡ suc w
-    go ih true e = rw (e, length-append, length-replicate w blank) (add-one w)
-    go ih false e = rw (e, length-append, ih) (add-one w)
 
 -- a byte put at the right end of what is still to be written
 pub put-last : (e p : List ℕ) (j v : ℕ) → j < length p → e ++ drop j (set p j v) ≡ (e ++ (v ∷ [])) ++ drop (suc j) p

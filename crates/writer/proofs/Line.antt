@@ -9,7 +9,7 @@ use Rattle.refusal.specs.Number.{numberOf, placeOf}
 use Rattle.columns.specs.Column.{column, lineEnd}
 use Rattle.writer.specs.Place.{laid}
 use Rattle.writer.specs.Output.{line, refusalLine}
-use Rattle.writer.proofs.Columns.{column-length}
+use Rattle.columns.proofs.Length.{column-length}
 use Rattle.writer.proofs.Laid.{laid-length, laid-next, laid-byte, laid-zero}
 
 -- one column more

@@ -35,7 +35,7 @@ use Rattle.solver.proofs.polynomial.all_zero.Reads as all-zero-reads
 use Rattle.solver.proofs.polynomial.divided.Reads as divided-reads
 use Rattle.solver.proofs.taylor.shifted.Reads as shifted-reads
 use Rattle.solver.proofs.tree.put_whole.Reads as put-whole-reads
-use Rattle.solver.proofs.tree.shorter.Reads as shorter-reads
+use Rattle.solver.proofs.least.Reads as least-reads
 use Rattle.solver.proofs.valuation.least_valuation.Reads as least-valuation-reads
 use Rattle.solver.proofs.valuation.power.Reads as power-reads
 use Rattle.solver.proofs.tree.+scan+settle.{statement}
@@ -63,8 +63,8 @@ abbrev scan-calls : ℕ → scan-lts.Claims
 scan-calls t = (
   zero-digits-reads.Asked,
   zero-digits-reads.Learnt,
-  shorter-reads.Asked,
-  shorter-reads.Learnt,
+  least-reads.Asked,
+  least-reads.Learnt,
   shifted-reads.Asked,
   shifted-reads.Learnt,
   settle-below t,
@@ -108,8 +108,8 @@ scan-zero-digits-requires t c κs =
     let u = c .before .pre .1 in
     (u .0, u .1 .prime, u .1 .small, u .4)
 
-scan-shorter-requires : (t : ℕ) → scan-lts.Need-shorter-requires (scan-calls t) (scan-at t) scan.Post scan-Inv-loop scan-μ-loop
-scan-shorter-requires t c κs = search needs
+scan-least-requires : (t : ℕ) → scan-lts.Need-least-requires (scan-calls t) (scan-at t) scan.Post scan-Inv-loop scan-μ-loop
+scan-least-requires t c κs = search needs
 
 scan-loop-holds : (t : ℕ) → scan-lts.Need-loop-holds (scan-calls t) (scan-at t) scan.Post scan-Inv-loop scan-μ-loop
 scan-loop-holds t c =
@@ -125,7 +125,7 @@ scan-loop-holds t c =
         nonzero = u .4;
         short = digits-fit t (c .before .before);
         entries = found .ensures .1;
-        capped = c .shorter .ensures ∙ ap (min (a .args .e)) (sym (length-take-le (a .args .len) (a .args .h) long));
+        capped = c .least .ensures ∙ ap (min (a .args .e)) (sym (length-take-le (a .args .len) (a .args .h) long));
       },
       scanned-start _ _ _ _ _ _ _ _ _,
     )
@@ -400,7 +400,7 @@ pub +scan+settle-spec : {M : Type 1} → statement M
     scan-Inv-loop
     scan-μ-loop
     (scan-zero-digits-requires t)
-    (scan-shorter-requires t)
+    (scan-least-requires t)
     (scan-loop-holds t)
     (scan-mul-c t)
     (scan-array-read-c t)

@@ -1,7 +1,7 @@
 -- `writer::column::put_column` meets its contract.
 use borrow.Author.Needs.{needs}
 use Rattle.columns.specs.Column.{column}
-use Rattle.writer.proofs.Columns.{column-length}
+use Rattle.columns.proofs.Length.{column-length}
 use Rattle.writer.proofs.Laid.{laid-part}
 use Rattle.writer.proofs.column.put_column.Statement.{statement}
 use Rattle.writer.proofs.column.put_column.Tie as tie

@@ -1,0 +1,3 @@
+-- Laws of columns.
+pub mod Digits
+pub mod Length
