@@ -32,7 +32,7 @@ exponent-small p k two h = go (decLt k 32)
         let value : 2 ^ 32 ≡ 4294967296 = refl in
         omega (arith, big, value, pow-le-pow-left two k)
 
-module _ (f : List ℕ) (p e m a q t left : ℕ) (N : Node f p e m a q t left) where
+module _ {f : List ℕ} {p e m a q t left : ℕ} (N : Node f p e m a q t left) where
   hp : 0 < p
   hp = prime-pos (N .prime)
 

@@ -32,7 +32,7 @@ pub record Scan (f digits : List ℕ) (p e m a q t left count cap : ℕ) : Type 
   pub entries : take count digits ≡ digitsOf p f
   pub capped : cap ≡ min e (length f)
 
-module _ (f digits : List ℕ) (p e m a q t left count cap : ℕ) (S : Scan f digits p e m a q t left count cap) where
+module _ {f digits : List ℕ} {p e m a q t left count cap : ℕ} (S : Scan f digits p e m a q t left count cap) where
   levels : left ≡ suc (left - 1)
   levels = omega (arith, S .deep)
 
@@ -50,7 +50,7 @@ module _ (f digits : List ℕ) (p e m a q t left count cap : ℕ) (S : Scan f di
             .two,
       )
 
-  module _ (i : ℕ) (h : i < count) where
+  module _ {i : ℕ} (h : i < count) where
     c : ℕ
     c = getD digits i 0
 
@@ -74,7 +74,7 @@ module _ (f digits : List ℕ) (p e m a q t left count cap : ℕ) (S : Scan f di
         let short = degree-modulo-lt p f (S .nonzero) in (
           omega (arith, S .capped, S .precise, short),
           omega (arith, S .capped, min-le-right e (length f), N .short),
-          modulus-pos f p e m a q t left N,
+          modulus-pos N,
           N .modulus-fits,
           omega (arith, digit-lt, N .small),
           omega (arith, N .small),
@@ -83,33 +83,33 @@ module _ (f digits : List ℕ) (p e m a q t left count cap : ℕ) (S : Scan f di
 
     -- p^(t + 1) and the child's residue
     pub step-fits : q * p < 18446744073709551616
-    step-fits = omega (arith, step-small f p e m a q t left (S .node) (left - 1) levels)
+    step-fits = omega (arith, step-small (S .node) (left - 1) levels)
 
     pub residue-fits : a + q * getD digits i 0 < 18446744073709551616
     unfolding c
-    residue-fits = omega (arith, child-residue f p e m a q t left (S .node) (left - 1) levels (getD digits i 0) digit-lt, step-fits)
+    residue-fits = omega (arith, child-residue (S .node) (left - 1) levels (getD digits i 0) digit-lt, step-fits)
 
-    module _ (g : List ℕ) (r : Residues m cap g (shifted (getD digits i 0) p f)) where
+    module _ {g : List ℕ} (r : Residues m cap g (shifted (getD digits i 0) p f)) where
       node-below : Node (take cap g) p e m (a + q * getD digits i 0) (q * p) (t + 1) (left - 1)
       unfolding c
-      node-below = child-node f p e m a q t left (S .node) (left - 1) levels (getD digits i 0) digit-lt cap g (S .capped) r
+      node-below = child-node (S .node) (left - 1) levels (getD digits i 0) digit-lt cap g (S .capped) r
 
       same-below : SameModulo (p ^ e) (take cap g) (shifted (getD (digitsOf p f) i 0) p f)
       unfolding c
       same-below =
-          rw digit-is at (child-same f p e m a q t left (S .node) (left - 1) levels (getD digits i 0) digit-lt cap g (S .capped) r)
+          rw digit-is at (child-same (S .node) (left - 1) levels (getD digits i 0) digit-lt cap g (S .capped) r)
 
       zeros-below : zeros (take cap g) p e ≡ branch (zeros f p e) p (getD (digitsOf p f) i 0)
       unfolding c
       zeros-below =
-          child-zeros f p e m a q t left (S .node) (left - 1) levels (getD digits i 0) digit-lt cap g (S .capped) r
+          child-zeros (S .node) (left - 1) levels (getD digits i 0) digit-lt cap g (S .capped) r
           ∙ ap (branch (zeros f p e) p) digit-is
 
       below-below : Below (p ^ e) (take cap g)
       unfolding c
-      below-below = child-below f p e m a q t left (S .node) (left - 1) levels (getD digits i 0) digit-lt cap g (S .capped) r
+      below-below = child-below (S .node) (left - 1) levels (getD digits i 0) digit-lt cap g (S .capped) r
 
-      module _ (k at : ℕ) (all : Bool) (out₀ out : List ℕ) (s : Scanned f p e a q t (left - 1) k at i all out₀ out) where
+      module _ {k at : ℕ} {all : Bool} {out₀ out : List ℕ} (s : Scanned f p e a q t (left - 1) k at i all out₀ out) where
         pub child-ready : k + degreeModulo p f ≤ length out₀
             → (cap ≤ 65) × Node (take cap g) p e m (a + q * getD digits i 0) (q * p) (t + 1) (left - 1) ×
             (at + room p (take cap g) ≤ length out)
@@ -120,25 +120,25 @@ module _ (f digits : List ℕ) (p e m a q t left count cap : ℕ) (S : Scan f di
               (omega (arith, count-is)) (S .nonzero) fits below-below same-below,
         )
 
-        pub child-done : (at′ : ℕ) (all′ child : Bool) (out′ : List ℕ)
+        pub child-done : {at′ : ℕ} {all′ child : Bool} {out′ : List ℕ}
             → Done (take cap g) p e (a + q * getD digits i 0) (q * p) (t + 1) (left - 1) at at′ child out out′ → length out′ ≡ length out
             → all′ ≡ (all && child) → Scanned f p e a q t (left - 1) k at′ (i + 1) all′ out₀ out′
-        child-done at′ all′ child out′ d long which =
+        child-done {at′} {all′} {child} {out′} d long which =
             rw which
             (scanned-next f p e m a q t left k (S .node) (S .precise) (left - 1) levels at at′ i all child out₀ out out′ (take cap g) s
             (omega (arith, count-is)) zeros-below (rw digit-is at d) long)
 
   -- After the last digit
-  module _ (k at i : ℕ) (all : Bool) (out₀ out : List ℕ) (s : Scanned f p e a q t (left - 1) k at i all out₀ out)
+  module _ {k at i : ℕ} {all : Bool} {out₀ out : List ℕ} (s : Scanned f p e a q t (left - 1) k at i all out₀ out)
       (low : i ≤ count) (high : count ≤ i) where
     end : i ≡ length (digitsOf p f)
     end = omega (arith, count-is)
 
-    pub full-done : all ≡ true → count ≡ p → k ≤ length out₀ → (k′ : ℕ) (whole : Bool) (out′ : List ℕ) → k′ ≡ k + 1 → whole ≡ true
+    pub full-done : all ≡ true → count ≡ p → k ≤ length out₀ → {k′ : ℕ} {whole : Bool} {out′ : List ℕ} → k′ ≡ k + 1 → whole ≡ true
         → take (k + 1) out′ ≡ take k out ++ ((a * 256 + t) ∷ []) → Done f p e a q t left k k′ whole out₀ out′
-    full-done each full short k′ whole out′ number is h =
+    full-done each full short {k′} {whole} {out′} number is h =
         let N = S .node in
-        done-whole f p e a q t left k k′ whole out₀ out′
+        done-whole
         (scanned-whole f p e m a q t left k N (S .precise) (left - 1) levels at i all out₀ out s end each (omega (arith, count-is, full)))
         number is
         (h ∙ ap (λ (l : List ℕ). l ++ ((a * 256 + t) ∷ []))

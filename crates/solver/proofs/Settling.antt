@@ -33,9 +33,9 @@ unfolding code within
 top-code a q t = omega arith
 
 -- the class is whole
-pub done-whole : (f : List ℕ) (p e a q t left k k′ : ℕ) (whole : Bool) (out out′ : List ℕ) → allBelow (zeros f p e) (p ^ left) ≡ true
+pub done-whole : {f : List ℕ} {p e a q t left k k′ : ℕ} {whole : Bool} {out out′ : List ℕ} → allBelow (zeros f p e) (p ^ left) ≡ true
     → k′ ≡ k + 1 → whole ≡ true → take (k + 1) out′ ≡ take k out ++ ((a * 256 + t) ∷ []) → Done f p e a q t left k k′ whole out out′
-done-whole f p e a q t left k k′ whole out out′ w number is h =
+done-whole {f} {p} {e} {a} {q} {t} {left} {k} {k′} {whole} {out} {out′} w number is h =
     let T = tree-whole (zeros f p e) p left w in
     record {
       number = number ∙ ap (λ (l : List Class). k + length l) (sym T);
@@ -48,9 +48,9 @@ done-whole f p e a q t left k k′ whole out out′ w number is h =
     }
 
 -- no level is left, and the one residue is no root
-pub done-none : (f : List ℕ) (p e a q t left k : ℕ) (out : List ℕ) → left ≡ 0 → allBelow (zeros f p e) (p ^ left) ≡ false
+pub done-none : {f : List ℕ} {p e a q t left k : ℕ} {out : List ℕ} → left ≡ 0 → allBelow (zeros f p e) (p ^ left) ≡ false
     → Done f p e a q t left k k false out out
-done-none f p e a q t left k out last w =
+done-none {f} {p} {e} {a} {q} {t} {left} {k} {out} last w =
     let T : tree (zeros f p e) p left ≡ [] = rw last (tree-none (zeros f p e) p (rw last at w)) in
     record {
       number = sym (ap (λ (l : List Class). k + length l) T ∙ add-zero k);
@@ -109,7 +109,7 @@ highest-divided test q [] = refl
 highest-divided test q (a ∷ f) =
     ap₂ (λ (t : Bool) (n : ℕ). elim t [ true ↦ suc n | false ↦ 0 ]) (some-divided test q f) (highest-divided test q f)
 
-module _ (f : List ℕ) (p e m a q t left : ℕ) (N : Node f p e m a q t left) (z : allZero f ≡ false) where
+module _ {f : List ℕ} {p e m a q t left : ℕ} (N : Node f p e m a q t left) (z : allZero f ≡ false) where
   s : ℕ
   s = leastValuation p f
 
@@ -185,7 +185,8 @@ module _ (f : List ℕ) (p e m a q t left : ℕ) (N : Node f p e m a q t left) (
       )
 
   -- all that the scan of the quotient's digits needs
-  module _ (v power len : ℕ) (h : List ℕ) (v-is : v ≡ leastValuation p f) (power-is : power ≡ p ^ v) (same : take len h ≡ divided power f)
+  module _ {v power : ℕ} (len : ℕ) (h : List ℕ) (v-is : v ≡ leastValuation p f) (power-is : power ≡ p ^ v)
+      (same : take len h ≡ divided power f)
     where
       same′ : take len h ≡ divided (p ^ leastValuation p f) f
       same′ = same ∙ ap (λ (x : ℕ). divided x f) (power-is ∙ ap (λ (x : ℕ). p ^ x) v-is)
@@ -197,14 +198,14 @@ module _ (f : List ℕ) (p e m a q t left : ℕ) (N : Node f p e m a q t left) (
           rw (same′, power-is, v-is)
           (divided-node, omega (arith, valuation-lt), divided-nonzero, omega (arith, divided-degree, room-some p f z))
 
-      pub divided-done : (k k′ : ℕ) (whole : Bool) (out out′ : List ℕ) → Done (take len h) p (e - v) a q t left k k′ whole out out′
+      pub divided-done : {k k′ : ℕ} {whole : Bool} {out out′ : List ℕ} → Done (take len h) p (e - v) a q t left k k′ whole out out′
           → Done f p e a q t left k k′ whole out out′
-      divided-done k k′ whole out out′ d =
+      divided-done d =
           let zeros-are : zeros f p e ≡ zeros (take len h) p (e - v) = rw (same′, v-is) divided-zeros in
           record { number = rw zeros-are (d .number); is-whole = rw zeros-are (d .is-whole); codes = rw zeros-are (d .codes) }
 
 -- a class that is whole takes room
-pub whole-room : (f : List ℕ) (p e m a q t left k : ℕ) (out : List ℕ) → Node f p e m a q t left
+pub whole-room : {f : List ℕ} {p e m a q t left : ℕ} (k : ℕ) (out : List ℕ) → Node f p e m a q t left
     → allBelow (zeros f p e) (p ^ left) ≡ true → k + room p f ≤ length out → k < length out
-whole-room f p e m a q t left k out N w fits =
+whole-room {f} {p} {e} {m} {a} {q} {t} {left} k out N w fits =
     omega (arith, ap length (tree-whole (zeros f p e) p left w), tree-room p e (N .prime) f (rw (← N .modulus) (N .below)) left)

@@ -55,7 +55,7 @@ written : (h : Class → ℕ) (L : List Class) (k : ℕ) (new old slots : List �
 written h L k new old slots e number w =
     w ∙ ap₂ (λ (l : List ℕ) (j : ℕ). l ++ drop j old) e (number ∙ sym (length-map L h))
 
-module _ (f : List ℤ) (p n m : ℕ) (U : Usable p n m) (few : length f ≤ 65) (g : List ℕ) (table : take (length f) g ≡ map (reduce m) f) where
+module _ (f : List ℤ) {p n m : ℕ} (U : Usable p n m) (few : length f ≤ 65) (g : List ℕ) (table : take (length f) g ≡ map (reduce m) f) where
   hp : 0 < p
   hp = prime-pos (U .prime)
 
@@ -99,7 +99,7 @@ module _ (f : List ℤ) (p n m : ℕ) (U : Usable p n m) (few : length f ≤ 65)
   unfolding roots zeros divides
   root-not x ne = ne-eqb (value (reduced f p n) x % p ^ n) 0 (λ e. ne (value-is x ∙ e))
 
-  module _ (k : ℕ) (whole : Bool) (out out′ : List ℕ) (d : Done (take (length f) g) p n 0 1 0 n 0 k whole out out′) where
+  module _ {k : ℕ} {whole : Bool} {out out′ : List ℕ} (d : Done (take (length f) g) p n 0 1 0 n 0 k whole out out′) where
     tree-number : k ≡ length (tree (roots f p n) p n)
     tree-number = d .number ∙ zero-add _ ∙ ap (λ (S : ℕ → Bool). length (tree S p n)) same-set
 

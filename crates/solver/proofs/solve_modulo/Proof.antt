@@ -70,11 +70,11 @@ module _ (c : tie.After-settle) where
 
   same-number : c .settle .result .k ≡ classes call
   same-number =
-      number (f call) _ _ _ (call .pre .0) (call .pre .2) _ (c .before .before .reduced .ensures) _ _ _ _ (c .settle .ensures)
+      number (f call) (call .pre .0) (call .pre .2) _ (c .before .before .reduced .ensures) (c .settle .ensures)
 
   few : c .settle .result .k ≤ 64
   few =
-      number-few (f call) _ _ _ (call .pre .0) (call .pre .2) _ (c .before .before .reduced .ensures) _ _ _ _ (c .settle .ensures)
+      number-few (f call) (call .pre .0) (call .pre .2) _ (c .before .before .reduced .ensures) (c .settle .ensures)
 
   levels-equal : slots call ≡ levels call
   levels-equal = c .before .before .before .before .if1 .left
@@ -100,18 +100,18 @@ module _ (c : tie.After-sort) where
 
   residues-fit : (i : ℕ) → i < k → codeResidue (getD (c .sort .last .0) i 0) < 4294967296
   residues-fit =
-      residue-fits (f x) _ _ _ (x .pre .0) (x .pre .2) _ (settled .before .before .reduced .ensures) _ _ _ _ (settled .settle .ensures)
+      residue-fits (f x) (x .pre .0) (x .pre .2) _ (settled .before .before .reduced .ensures) (settled .settle .ensures)
       (c .sort .last .0) (c .sort .ensures)
 
   levels-fit : (i : ℕ) → i < k → codeLevel (getD (c .sort .last .0) i 0) ≤ x .args .n
   levels-fit =
-      level-fits (f x) _ _ _ (x .pre .0) (x .pre .2) _ (settled .before .before .reduced .ensures) _ _ _ _ (settled .settle .ensures)
+      level-fits (f x) (x .pre .0) (x .pre .2) _ (settled .before .before .reduced .ensures) (settled .settle .ensures)
       (c .sort .last .0) (c .sort .ensures)
 
   total-is : codeTotal (x .args .p) (x .args .n) (take k (c .sort .last .0)) ≡ count (roots (f x) (x .args .p) (x .args .n)) (x .args .p)
       (x .args .n)
   total-is =
-      total (f x) _ _ _ (x .pre .0) (x .pre .2) _ (settled .before .before .reduced .ensures) _ _ _ _ (settled .settle .ensures)
+      total (f x) (x .pre .0) (x .pre .2) _ (settled .before .before .reduced .ensures) (settled .settle .ensures)
       (c .sort .last .0) (c .sort .ensures)
 
 least-requires : tie.Need-least-requires
@@ -142,8 +142,8 @@ settle-requires : tie.Need-settle-requires
 settle-requires c κs =
     let a = c .before .before .before .before .before .before .before in (
       a .pre .2,
-      top-node (f a) _ _ _ (a .pre .0) (a .pre .2) _ (c .before .reduced .ensures),
-      top-room (f a) _ _ _ (a .pre .0) (a .pre .2) _ (c .before .reduced .ensures),
+      top-node (f a) (a .pre .0) (a .pre .2) _ (c .before .reduced .ensures),
+      top-room (f a) (a .pre .0) (a .pre .2) _ (c .before .reduced .ensures),
     )
 
 returns-2 : tie.Need-returns-2
@@ -231,14 +231,14 @@ returns-3 c =
           ∙ sym (solved-found (f a) (a .args .p) (a .args .n) (slots a) (levels a) (marks a) v),
       (
         rw v
-            (residues-written (f a) _ _ _ (a .pre .0) (a .pre .2) _ (g .ensures) _ _ _ _ (settled s .settle .ensures) _ (s .sort .ensures)
+            (residues-written (f a) (a .pre .0) (a .pre .2) _ (g .ensures) (settled s .settle .ensures) _ (s .sort .ensures)
             (a .args .residues .now) _ (listed .write-residues .ensures)),
         (
           rw v
-              (levels-written (f a) _ _ _ (a .pre .0) (a .pre .2) _ (g .ensures) _ _ _ _ (settled s .settle .ensures) _ (s .sort .ensures)
+              (levels-written (f a) (a .pre .0) (a .pre .2) _ (g .ensures) (settled s .settle .ensures) _ (s .sort .ensures)
               (a .args .levels .now) _ (levelled .write-levels .ensures)),
           rw v
-              (marks-written (f a) _ _ _ (a .pre .0) (a .pre .2) _ (g .ensures) _ _ _ _ (settled s .settle .ensures) _ (s .sort .ensures)
+              (marks-written (f a) (a .pre .0) (a .pre .2) _ (g .ensures) (settled s .settle .ensures) _ (s .sort .ensures)
               _ (a .args .marks .now) _ (differentiated .derivative .ensures) (marked .write-marks .ensures)),
         ),
       ),

@@ -28,10 +28,10 @@ reduced-requires c κs = (
 value-requires : tie.Need-value-requires
 value-requires c κs =
     let a = c .before .before in
-    let N = top-node (a .args .coefficients .now) (a .args .p) (a .args .n) (a .args .m) (a .pre .0) (a .pre .2) (c .reduced .result)
+    let N = top-node (a .args .coefficients .now) (a .pre .0) (a .pre .2) (c .reduced .result)
     (c .reduced .ensures) in (
       a .pre .2,
-      modulus-pos _ _ _ _ _ _ _ _ N,
+      modulus-pos N,
       N .modulus-fits,
       a .pre .3,
       below-larger (a .args .m) 4294967296 _ (omega (arith, N .modulus-fits)) (N .below),
@@ -45,7 +45,7 @@ returns-2 c =
     sym (tested-yes (x .coefficients .now) (x .p) (x .n) (x .point)
     (point-accepted (x .coefficients .now) (x .p) (x .n) (x .point) (a .pre .1) (a .pre .2) (x .m) (a .pre .0)
     (c .before .before .before .if1 .left))
-    (root-zero (x .coefficients .now) (x .p) (x .n) (x .m) (a .pre .0) (a .pre .2) (g .result) (g .ensures) (x .point)
+    (root-zero (x .coefficients .now) (a .pre .0) (a .pre .2) (g .result) (g .ensures) (x .point)
     (sym (c .before .value .ensures) ∙ c .if2 .taken)))
 
 returns-3 : tie.Need-returns-3
@@ -56,7 +56,7 @@ returns-3 c =
     sym (tested-no (x .coefficients .now) (x .p) (x .n) (x .point)
     (point-accepted (x .coefficients .now) (x .p) (x .n) (x .point) (a .pre .1) (a .pre .2) (x .m) (a .pre .0)
     (c .before .before .before .if1 .left))
-    (root-not (x .coefficients .now) (x .p) (x .n) (x .m) (a .pre .0) (a .pre .2) (g .result) (g .ensures) (x .point)
+    (root-not (x .coefficients .now) (a .pre .0) (a .pre .2) (g .result) (g .ensures) (x .point)
     (λ e. c .if2 .left (c .before .value .ensures ∙ e))))
 
 pub test-modulo-spec : {M : Type 1} → statement M

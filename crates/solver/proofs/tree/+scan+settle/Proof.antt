@@ -31,11 +31,11 @@ use Rattle.solver.proofs.tree.settle.Reads as settle
 use Rattle.solver.proofs.tree.settle.Kinds as settle-kinds
 use Rattle.solver.proofs.tree.+scan+settle.Lts-settle as settle-lts
 use Rattle.solver.proofs.digits.zero_digits.Reads as zero-digits-reads
+use Rattle.solver.proofs.least.Reads as least-reads
 use Rattle.solver.proofs.polynomial.all_zero.Reads as all-zero-reads
 use Rattle.solver.proofs.polynomial.divided.Reads as divided-reads
 use Rattle.solver.proofs.taylor.shifted.Reads as shifted-reads
 use Rattle.solver.proofs.tree.put_whole.Reads as put-whole-reads
-use Rattle.solver.proofs.least.Reads as least-reads
 use Rattle.solver.proofs.valuation.least_valuation.Reads as least-valuation-reads
 use Rattle.solver.proofs.valuation.power.Reads as power-reads
 use Rattle.solver.proofs.tree.+scan+settle.{statement}
@@ -138,38 +138,20 @@ scan-array-read-c t c = omega (arith, c .loop-test .taken, c .before .before .be
 
 scan-shifted-requires : (t : ℕ) → scan-lts.Need-shifted-requires (scan-calls t) (scan-at t) scan.Post scan-Inv-loop scan-μ-loop
 scan-shifted-requires t c κs =
-    let s = shift-ready _ _ _ _ _ _ _ _ _ _ _ (c .before .loop .inv .1) (c .before .loop .i) (c .loop-test .taken) in
+    let s = shift-ready (c .before .loop .inv .1) (c .loop-test .taken) in
     (c .before .before .before .before .before .before .pre .1 .0, s .0, s .1, s .2, s .3, s .4, s .5, s .6)
 
 scan-mul-settle : (t : ℕ) → scan-lts.Need-mul-settle (scan-calls t) (scan-at t) scan.Post scan-Inv-loop scan-μ-loop
-scan-mul-settle t c =
-    record {
-      fits = omega (
-        arith,
-        residue-fits _ _ _ _ _ _ _ _ _ _ _ (c .before .before .loop .inv .1) (c .before .before .loop .i)
-            (c .before .loop-test .taken),
-      );
-    }
+scan-mul-settle t c = record { fits = omega (arith, residue-fits (c .before .before .loop .inv .1) (c .before .loop-test .taken)) }
 
 scan-add-settle : (t : ℕ) → scan-lts.Need-add-settle (scan-calls t) (scan-at t) scan.Post scan-Inv-loop scan-μ-loop
-scan-add-settle t c =
-    record {
-      fits = omega (
-        arith,
-        residue-fits _ _ _ _ _ _ _ _ _ _ _ (c .before .before .loop .inv .1) (c .before .before .loop .i)
-            (c .before .loop-test .taken),
-      );
-    }
+scan-add-settle t c = record { fits = omega (arith, residue-fits (c .before .before .loop .inv .1) (c .before .loop-test .taken)) }
 
 scan-mul-settle-2 : (t : ℕ) → scan-lts.Need-mul-settle-2 (scan-calls t) (scan-at t) scan.Post scan-Inv-loop scan-μ-loop
-scan-mul-settle-2 t c =
-    record {
-      fits = omega
-          (arith, step-fits _ _ _ _ _ _ _ _ _ _ _ (c .before .before .loop .inv .1) (c .before .before .loop .i) (c .before .loop-test .taken));
-    }
+scan-mul-settle-2 t c = record { fits = omega (arith, step-fits (c .before .before .loop .inv .1) (c .before .loop-test .taken)) }
 
 scan-add-settle-2 : (t : ℕ) → scan-lts.Need-add-settle-2 (scan-calls t) (scan-at t) scan.Post scan-Inv-loop scan-μ-loop
-scan-add-settle-2 t c = record { fits = omega (arith, level-small _ _ _ _ _ _ _ _ (c .before .before .loop .inv .1 .node)) }
+scan-add-settle-2 t c = record { fits = omega (arith, level-small (c .before .before .loop .inv .1 .node)) }
 
 scan-sub-settle : (t : ℕ) → scan-lts.Need-sub-settle (scan-calls t) (scan-at t) scan.Post scan-Inv-loop scan-μ-loop
 scan-sub-settle t c = search needs
@@ -183,9 +165,8 @@ scan-settle-requires t c κs =
         c .before .before .before .before .before
             .before .before .before .pre .1 .3,
       ),
-      child-ready _ _ _ _ _ _ _ _ _ _ _ (l .inv .1) (l .i) (c .before .before .loop-test .taken) (c .before .shifted .result)
-          (c .before .shifted .ensures)
-          _ _ _ _ _ (l .inv .2) (c .before .before .before .before .before .before .before .before .pre .1 .5),
+      child-ready (l .inv .1) (c .before .before .loop-test .taken) (c .before .shifted .ensures) (l .inv .2)
+          (c .before .before .before .before .before .before .before .before .pre .1 .5),
     )
 
 scan-add-i : (t : ℕ) → scan-lts.Need-add-i (scan-calls t) (scan-at t) scan.Post scan-Inv-loop scan-μ-loop
@@ -206,22 +187,20 @@ scan-loop-again t c =
     let long : length (s .last .1 .1 .1 .1 .1 .1 .1 .1 .1 .0) ≡ length (l .out) = search needs in (
       omega (arith, c .before .before .before .before .before .before .before .loop-test .taken),
       l .inv .1,
-      child-done _ _ _ _ _ _ _ _ _ _ _ (l .inv .1) (l .i) (c .before .before .before .before .before .before .before .loop-test .taken)
-          (c .before .before .before .before .before .before .shifted .result)
-          (c .before .before .before .before .before .before .shifted .ensures)
-          _ _ _ _ _ (l .inv .2) _ _ _ _ (s .ensures) long which,
+      child-done (l .inv .1) (c .before .before .before .before .before .before .before .loop-test .taken)
+          (c .before .before .before .before .before .before .shifted .ensures) (l .inv .2) (s .ensures) long which,
     )
 
 scan-put-whole-requires : (t : ℕ) → scan-lts.Need-put-whole-requires (scan-calls t) (scan-at t) scan.Post scan-Inv-loop scan-μ-loop
 scan-put-whole-requires t c κs =
     let l = c .before .before .before .before .loop in
     let a = c .before .before .before .before .before .before .before .before .before in (
-      residue-small _ _ _ _ _ _ _ _ (l .inv .1 .node),
-      omega (arith, level-small _ _ _ _ _ _ _ _ (l .inv .1 .node)),
+      residue-small (l .inv .1 .node),
+      omega (arith, level-small (l .inv .1 .node)),
       omega (
         arith,
         l .inv .2 .long,
-        full-room _ _ _ _ _ _ _ _ _ _ _ (l .inv .1) (a .args .k) (a .args .out .now) (eqb-true _ _ (c .before .if3 .taken)) (a .pre .1 .5),
+        full-room (l .inv .1) (a .args .k) (a .args .out .now) (eqb-true _ _ (c .before .if3 .taken)) (a .pre .1 .5),
       ),
     )
 
@@ -239,9 +218,9 @@ scan-returns t c =
     let a = c .before .before .before .before .before .before .before .before .before .before .before .before in
     let put = c .before .before .put-whole in
     let short : a .args .k ≤ length (a .args .out .now) = omega (arith, a .pre .1 .5) in
-    full-done _ _ _ _ _ _ _ _ _ _ _ (l .inv .1) _ _ _ _ _ _ (l .inv .2) (l .inv .0)
-    (c .before .before .before .before .before .before .loop-test .left) (c .before .before .before .before .before .if2 .taken)
-    (eqb-true _ _ (c .before .before .before .before .if3 .taken)) short _ _ _ (put .ensures .0) (put .ensures .1) (put .ensures .2)
+    full-done (l .inv .1) (l .inv .2) (l .inv .0) (c .before .before .before .before .before .before .loop-test .left)
+    (c .before .before .before .before .before .if2 .taken)
+    (eqb-true _ _ (c .before .before .before .before .if3 .taken)) short (put .ensures .0) (put .ensures .1) (put .ensures .2)
 
 scan-same-length-2 : (t : ℕ) → scan-lts.Need-same-length-2 (scan-calls t) (scan-at t) scan.Post scan-Inv-loop scan-μ-loop
 scan-same-length-2 t c =
@@ -252,7 +231,7 @@ scan-same-length-2 t c =
 scan-returns-2 : (t : ℕ) → scan-lts.Need-returns-2 (scan-calls t) (scan-at t) scan.Post scan-Inv-loop scan-μ-loop
 scan-returns-2 t c =
     let l = c .before .before .loop in
-    scan-done _ _ _ _ _ _ _ _ _ _ _ (l .inv .1) _ _ _ _ _ _ (l .inv .2) (l .inv .0) (c .before .loop-test .left)
+    scan-done (l .inv .1) (l .inv .2) (l .inv .0) (c .before .loop-test .left)
     (λ each full. elim (c .if2 .came) [ inl w ↦ eqb-false _ _ (w .1 .left) full | inr w ↦ contradiction each (w .left) ])
 
 settle-all-zero-requires : (t : ℕ) → settle-lts.Need-all-zero-requires (settle-calls t) (settle-at t) settle.Post
@@ -265,12 +244,8 @@ settle-put-whole-requires t c κs =
     let N = a .pre .1 .1 in
     let z : allZero F ≡ true = sym (c .before .before .all-zero .ensures) ∙ c .before .if1 .taken in
     let w : allBelow (zeros F (a .args .p) (a .args .e)) (a .args .p ^ a .args .left) ≡ true =
-    whole-at-once F (a .args .p) (a .args .e) (a .args .left) z in (
-      residue-small _ _ _ _ _ _ _ _ N,
-      omega (arith, level-small _ _ _ _ _ _ _ _ N),
-      whole-room _ _ _ _ _ _ _ _ (a .args .k)
-          (a .args .out .now) N w (a .pre .1 .2),
-    )
+    whole-at-once F (a .args .p) (a .args .e) (a .args .left) z in
+    (residue-small N, omega (arith, level-small N), whole-room (a .args .k) (a .args .out .now) N w (a .pre .1 .2))
 
 settle-same-length : (t : ℕ) → settle-lts.Need-same-length (settle-calls t) (settle-at t) settle.Post
 settle-same-length t c = search needs
@@ -285,7 +260,7 @@ settle-returns t c =
     let w : allBelow (zeros F (a .args .p) (a .args .e)) (a .args .p ^ a .args .left) ≡ true =
     whole-at-once F (a .args .p) (a .args .e) (a .args .left) z in
     let put = c .before .before .put-whole in
-    done-whole F _ _ _ _ _ _ _ _ _ _ _ w (put .ensures .0) (put .ensures .1) (put .ensures .2)
+    done-whole w (put .ensures .0) (put .ensures .1) (put .ensures .2)
 
 settle-array-read-if3 : (t : ℕ) → settle-lts.Need-array-read-if3 (settle-calls t) (settle-at t) settle.Post
 settle-array-read-if3 t c = search needs
@@ -297,12 +272,8 @@ settle-put-whole-requires-2 t c κs =
     let N = a .pre .1 .1 in
     let w : allBelow (zeros F (a .args .p) (a .args .e)) (a .args .p ^ a .args .left) ≡ true =
     zero-root F (a .args .p) (a .args .e) (a .args .left) (c .before .before .if2 .taken)
-    (first-zero (a .args .len) (a .args .t1) (c .before .if3 .taken)) in (
-      residue-small _ _ _ _ _ _ _ _ N,
-      omega (arith, level-small _ _ _ _ _ _ _ _ N),
-      whole-room _ _ _ _ _ _ _ _ (a .args .k)
-          (a .args .out .now) N w (a .pre .1 .2),
-    )
+    (first-zero (a .args .len) (a .args .t1) (c .before .if3 .taken)) in
+    (residue-small N, omega (arith, level-small N), whole-room (a .args .k) (a .args .out .now) N w (a .pre .1 .2))
 
 settle-same-length-2 : (t : ℕ) → settle-lts.Need-same-length-2 (settle-calls t) (settle-at t) settle.Post
 settle-same-length-2 t c = search needs
@@ -316,7 +287,7 @@ settle-returns-2 t c =
     zero-root F (a .args .p) (a .args .e) (a .args .left) (c .before .before .before .before .before .if2 .taken)
     (first-zero (a .args .len) (a .args .t1) (c .before .before .before .before .if3 .taken)) in
     let put = c .before .before .put-whole2 in
-    done-whole F _ _ _ _ _ _ _ _ _ _ _ w (put .ensures .0) (put .ensures .1) (put .ensures .2)
+    done-whole w (put .ensures .0) (put .ensures .1) (put .ensures .2)
 
 settle-returns-3 : (t : ℕ) → settle-lts.Need-returns-3 (settle-calls t) (settle-at t) settle.Post
 settle-returns-3 t c =
@@ -325,7 +296,7 @@ settle-returns-3 t c =
     let N = a .pre .1 .1 in
     let z : allZero F ≡ false = sym (c .before .before .before .all-zero .ensures) ∙ c .before .before .if1 .left in
     let below : Below (a .args .p ^ a .args .e) F = rw (← N .modulus) (N .below) in
-    done-none F _ _ _ _ _ _ _ _ (c .before .if2 .taken)
+    done-none (c .before .if2 .taken)
     (no-root F (a .args .p) (a .args .e) (a .args .left) below (c .before .if2 .taken)
     (first-not (a .args .len) (a .args .t1) z (c .if3 .left)))
 
@@ -343,7 +314,7 @@ settle-power-requires t c κs =
     let F = take (a .args .len) (a .args .t1) in
     let N = a .pre .1 .1 in
     let z : allZero F ≡ false = sym (c .before .before .before .all-zero .ensures) ∙ c .before .before .if1 .left in
-    (prime-pos (N .prime), rw (c .least-valuation .ensures) (power-small F _ _ _ _ _ _ _ N z))
+    (prime-pos (N .prime), rw (c .least-valuation .ensures) (power-small N z))
 
 settle-divided-requires : (t : ℕ) → settle-lts.Need-divided-requires (settle-calls t) (settle-at t) settle.Post
 settle-divided-requires t c κs =
@@ -357,7 +328,7 @@ settle-sub-scan t c =
     let N = a .pre .1 .1 in
     let z : allZero F ≡ false =
     sym (c .before .before .before .before .before .all-zero .ensures) ∙ c .before .before .before .before .if1 .left in
-    omega (arith, valuation-lt F _ _ _ _ _ _ _ N z, c .before .before .least-valuation .ensures)
+    omega (arith, valuation-lt N z, c .before .before .least-valuation .ensures)
 
 settle-div-scan : (t : ℕ) → settle-lts.Need-div-scan (settle-calls t) (settle-at t) settle.Post
 settle-div-scan t c =
@@ -372,8 +343,7 @@ settle-scan-requires t c κs =
     let z : allZero F ≡ false =
     sym (c .before .before .before .before .before .before .all-zero .ensures) ∙ c .before .before .before .before .before .if1 .left in
     let r =
-    divided-ready F _ _ _ _ _ _ _ N z _ _ (a .args .len) (c .before .divided .result)
-    (c .before .before .before .least-valuation .ensures)
+    divided-ready N z (a .args .len) (c .before .divided .result) (c .before .before .before .least-valuation .ensures)
     (c .before .before .power .ensures) (c .before .divided .ensures) (a .args .k) (a .args .out .now) (a .pre .1 .2) in
     (omega (arith, a .pre .0), (a .pre .1 .0, r .0, r .1, omega (arith, c .before .before .before .before .if2 .left), r .2, r .3))
 
@@ -388,9 +358,9 @@ settle-returns-4 t c =
     let z : allZero F ≡ false =
     sym (c .before .before .before .before .before .before .before .before .before .all-zero .ensures)
     ∙ c .before .before .before .before .before .before .before .before .if1 .left in
-    divided-done F _ _ _ _ _ _ _ N z _ _ (a .args .len) (c .before .before .before .before .divided .result)
+    divided-done N z (a .args .len) (c .before .before .before .before .divided .result)
     (c .before .before .before .before .before .before .least-valuation .ensures)
-    (c .before .before .before .before .before .power .ensures) (c .before .before .before .before .divided .ensures) _ _ _ _ _
+    (c .before .before .before .before .before .power .ensures) (c .before .before .before .before .divided .ensures)
     (c .before .before .scan .ensures)
 
 pub +scan+settle-spec : {M : Type 1} → statement M
