@@ -1,6 +1,8 @@
-/* roots P N C0 C1 ..: prints the root classes of C0 + C1 x + .. modulo P^N, and then the roots one after the other.
+/* roots P N C0 C1 ..: prints the root classes of C0 + C1 x + .. modulo P^N, and then the roots one after the other. The status is 1 where the
+   library refuses the problem, and 2 where a word is no number or out of its type's range.
 
    Link with the library: cc roots.c $(pkg-config --cflags --libs wimpleclay) -o roots */
+#include <errno.h>
 #include <inttypes.h>
 #include <stdio.h>
 #include <stdlib.h>
@@ -29,11 +31,22 @@ static int print_roots(uint32_t p, uint32_t n, const uint32_t *residues, const u
     }
 }
 
-/* The number, or the largest one where it is larger: that is above every limit on p and n. */
-static uint32_t number(const char *word)
+/* Reads a whole word as a number from least to most. */
+static int read_number(const char *word, int64_t least, int64_t most, int64_t *number)
 {
-    unsigned long long x = strtoull(word, NULL, 10);
-    return x > UINT32_MAX ? UINT32_MAX : (uint32_t)x;
+    char *end;
+    errno = 0;
+    long long x = strtoll(word, &end, 10);
+    if (end == word || *end != '\0') {
+        fprintf(stderr, "roots: %s is no number\n", word);
+        return 0;
+    }
+    if (errno == ERANGE || x < least || x > most) {
+        fprintf(stderr, "roots: %s is out of range\n", word);
+        return 0;
+    }
+    *number = x;
+    return 1;
 }
 
 int main(int argc, char **argv)
@@ -45,10 +58,14 @@ int main(int argc, char **argv)
         fprintf(stderr, "usage: roots P N C0 C1 ..\n");
         return 2;
     }
-    uint32_t p = number(argv[1]), n = number(argv[2]);
+    int64_t prime, precision;
+    if (!read_number(argv[1], 0, UINT32_MAX, &prime) || !read_number(argv[2], 0, UINT32_MAX, &precision))
+        return 2;
+    uint32_t p = (uint32_t)prime, n = (uint32_t)precision;
     size_t count = (size_t)argc - 3;
     for (size_t i = 0; i < count; i++)
-        coefficients[i] = strtoll(argv[3 + i], NULL, 10);
+        if (!read_number(argv[3 + i], INT64_MIN, INT64_MAX, &coefficients[i]))
+            return 2;
 
     wimpleclay_solve_answer solved = wimpleclay_solve(coefficients, count, p, n, residues, WIMPLECLAY_MAX_CLASSES,
                                                       levels, WIMPLECLAY_MAX_CLASSES, marks, WIMPLECLAY_MAX_CLASSES);
