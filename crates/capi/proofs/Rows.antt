@@ -9,10 +9,11 @@ use lib.Dec.{ltb}
 use lib.IntN.{ℤ}
 use lib.ListN.{length, drop}
 use Rattle.refusal.specs.declared.Refusal.{Refusal}
+use Rattle.refusal.specs.Rules.{filled}
 use Rattle.text.specs.declared.Problem.{Problem}
 use Rattle.text.specs.declared.Read.{Read}
 use Rattle.text.specs.declared.Read.the-variants.{Given, Refused}
-use Rattle.capi.specs.Row.{rowChecked, rowFilled}
+use Rattle.capi.specs.Row.{rowChecked, readVerdict}
 
 -- a row that is accepted has 65 slots
 pub accepted-row : (read : Read) (slots p n count end : ℕ) → Given p n count end ≡ rowChecked read slots → 65 ≤ slots
@@ -28,18 +29,18 @@ accepted-row (Refused r) slots p n count end e = let z : _≡_ {A = ℕ} 0 1 = c
 
 module _ (problem whole : Problem) (slots : ℕ) (e : problem ≡ whole) where
   -- the verdict on the row is that on the whole text and the row
-  pub checked-is : rowChecked (problem .answer) slots ≡ rowChecked (whole .answer) slots
-  checked-is = ap (λ (x : Problem). rowChecked (x .answer) slots) e
+  pub checked-is : rowChecked (problem .read) slots ≡ rowChecked (whole .read) slots
+  checked-is = ap (λ (x : Problem). rowChecked (x .read) slots) e
 
-  pub filled-is : (read : Read) (old : List ℤ) (p n count end : ℕ) → read ≡ rowChecked (problem .answer) slots → read ≡ Given p n count end
+  pub filled-is : (read : Read) (old : List ℤ) (p n count end : ℕ) → read ≡ rowChecked (problem .read) slots → read ≡ Given p n count end
       → problem .coefficients ++ drop (length (problem .coefficients)) old
-      ≡ rowFilled (rowChecked (whole .answer) slots) (whole .coefficients) old
+      ≡ filled (readVerdict (rowChecked (whole .read) slots)) (whole .coefficients) old
   filled-is read old p n count end c g =
-      ap (λ (x : Read). rowFilled x (problem .coefficients) old) (sym g ∙ c)
-      ∙ ap (λ (x : Problem). rowFilled (rowChecked (x .answer) slots) (x .coefficients) old) e
+      ap (λ (x : Read). filled (readVerdict x) (problem .coefficients) old) (sym g ∙ c)
+      ∙ ap (λ (x : Problem). filled (readVerdict (rowChecked (x .read) slots)) (x .coefficients) old) e
 
-  pub kept-is : (read : Read) (old : List ℤ) (r : Refusal) → read ≡ rowChecked (problem .answer) slots → read ≡ Refused r
-      → old ≡ rowFilled (rowChecked (whole .answer) slots) (whole .coefficients) old
+  pub kept-is : (read : Read) (old : List ℤ) (r : Refusal) → read ≡ rowChecked (problem .read) slots → read ≡ Refused r
+      → old ≡ filled (readVerdict (rowChecked (whole .read) slots)) (whole .coefficients) old
   kept-is read old r c g =
-      ap (λ (x : Read). rowFilled x (problem .coefficients) old) (sym g ∙ c)
-      ∙ ap (λ (x : Problem). rowFilled (rowChecked (x .answer) slots) (x .coefficients) old) e
+      ap (λ (x : Read). filled (readVerdict x) (problem .coefficients) old) (sym g ∙ c)
+      ∙ ap (λ (x : Problem). filled (readVerdict (rowChecked (x .read) slots)) (x .coefficients) old) e

@@ -1,8 +1,5 @@
 -- The lent row that the reader's coefficients go into (01, "Lent lists, map and text": "a row of 65 coefficients, zero after the c read").
-use mathlib.Core.List.{List, _++_}
 use Prim.Native.Nat.{ℕ}
-use lib.IntN.{ℤ}
-use lib.ListN.{length, drop}
 use Rattle.refusal.specs.Rules.{Verdict, passes, refuses, rule11}
 use Rattle.text.specs.declared.Read.{Read}
 use Rattle.text.specs.declared.Read.the-variants.{Given, Refused}
@@ -17,7 +14,7 @@ abbrev pub rowChecked : Read → ℕ → Read
 rowChecked (Given p n count end) slots = givenOr (rule11 slots 65) (Given p n count end)
 rowChecked (Refused r) slots = Refused r
 
--- the row goes into the first slots, later slots keep their content, and a refusal "alters no lent memory"
-abbrev pub rowFilled : Read → List ℤ → List ℤ → List ℤ
-rowFilled (Given p n count end) row old = row ++ drop (length row) old
-rowFilled (Refused r) row old = old
+-- what was refused, for `filled`
+abbrev pub readVerdict : Read → Verdict
+readVerdict (Given p n count end) = passes
+readVerdict (Refused r) = refuses r

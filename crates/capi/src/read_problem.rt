@@ -3,9 +3,10 @@ ghost use mathlib.Core.Path.{_≡_};
 ghost use mathlib.Core.List.{_++_};
 ghost use Prim.Native.Nat.{_≤_};
 ghost use lib.ListN.{length, drop};
+ghost use Rattle.refusal.specs.Rules.{filled};
 ghost use Rattle.text.specs.Form.{problemOf};
 ghost use Rattle.capi.specs.Answers.{readAnswer};
-ghost use Rattle.capi.specs.Row.{rowChecked, rowFilled};
+ghost use Rattle.capi.specs.Row.{rowChecked, readVerdict};
 use refusal::Refusal;
 use text::Read;
 
@@ -73,14 +74,14 @@ fn put_row(row: [i64; 65], coefficients: &mut [i64])
 // Rules 1, 2 and 3, then 11 where the lent row has fewer than 65 slots; a refusal alters nothing.
 #[no_mangle]
 pub extern "C" fn wimpleclay_read_problem(text: &[u8], coefficients: &mut [i64]) -> ReadAnswer
-    ensures answer { λ r. ⌜ r ≡ readAnswer (rowChecked (problemOf (now (text .entry)) .answer) (length (now (coefficients .entry)))) ⌝ }
+    ensures answer { λ r. ⌜ r ≡ readAnswer (rowChecked (problemOf (now (text .entry)) .read) (length (now (coefficients .entry)))) ⌝ }
     ensures coefficients { λ _. ⌜ now (coefficients .exit)
-        ≡ rowFilled (rowChecked (problemOf (now (text .entry)) .answer) (length (now (coefficients .entry))))
+        ≡ filled (readVerdict (rowChecked (problemOf (now (text .entry)) .read) (length (now (coefficients .entry)))))
         (problemOf (now (text .entry)) .coefficients) (now (coefficients .entry)) ⌝ }
 {
     let problem = text::read_problem(text);
-    let answer = problem.answer;
-    let read = check_row(answer, coefficients.len());
+    let whole = problem.read;
+    let read = check_row(whole, coefficients.len());
     let Read::Refused(_) = read else {
         let row = problem.coefficients;
         put_row(row, coefficients);

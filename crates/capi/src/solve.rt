@@ -1,7 +1,6 @@
 // The solver for C.
 ghost use mathlib.Core.Path.{_≡_};
-ghost use lib.ListN.{length};
-ghost use Rattle.solver.specs.Solve.{solvedOf, residuesAfter, levelsAfter, marksAfter};
+ghost use Rattle.solver.specs.Solve.{lists as listsOf, solvedOf, listsAfter};
 ghost use Rattle.capi.specs.Answers.{solveAnswer};
 use solver::Solved;
 
@@ -43,13 +42,10 @@ pub extern "C" fn wimpleclay_solve(
     marks: &mut [u8],
 ) -> SolveAnswer
     ensures answer { λ r. ⌜ r ≡ solveAnswer (solvedOf (now (coefficients .entry)) p n
-        (length (now (residues .entry))) (length (now (levels .entry))) (length (now (marks .entry)))) ⌝ }
-    ensures residues { λ _. ⌜ now (residues .exit)
-        ≡ residuesAfter (now (coefficients .entry)) p n (now (residues .entry)) (now (levels .entry)) (now (marks .entry)) ⌝ }
-    ensures levels { λ _. ⌜ now (levels .exit)
-        ≡ levelsAfter (now (coefficients .entry)) p n (now (residues .entry)) (now (levels .entry)) (now (marks .entry)) ⌝ }
-    ensures marks { λ _. ⌜ now (marks .exit)
-        ≡ marksAfter (now (coefficients .entry)) p n (now (residues .entry)) (now (levels .entry)) (now (marks .entry)) ⌝ }
+        (listsOf (now (residues .entry)) (now (levels .entry)) (now (marks .entry)))) ⌝ }
+    ensures lists { λ _. ⌜ listsOf (now (residues .exit)) (now (levels .exit)) (now (marks .exit))
+        ≡ listsAfter (now (coefficients .entry)) p n
+        (listsOf (now (residues .entry)) (now (levels .entry)) (now (marks .entry))) ⌝ }
 {
     solve_answer(solver::solve(coefficients, p, n, residues, levels, marks))
 }

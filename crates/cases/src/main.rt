@@ -1,27 +1,156 @@
-// 01's cases, executed: a line has a problem and its answer, and the last line counts the answers that differ from the expected ones.
+// 01's cases, executed. Standard input has a line for each, in four parts: the operation's letter and the numbers of slots, if not 65;
+// after a ; the coefficients; after a | the call; after a : the expected answer. Call and answer are printed, and the last line counts the
+// answers that differ. The letters: s solver, t test, n next, m map, c count of bytes, d count of the map of 0/1, w writer, r stepping.
 mod answer;
-mod failures;
-mod limits;
+mod bytes;
+mod call;
 mod lists;
 mod maps;
-mod marked;
 mod next;
-mod others;
-mod print;
-mod score;
+mod prefix;
+mod rows;
 mod solving;
-mod testing;
+mod steps;
+mod writing;
 
-use score::Score;
+use answer::Answer;
+use libc::STDIN_FILENO;
+use libc::STDOUT_FILENO;
+use rows::Row;
+use rows::byte_at;
+use rows::numbers;
+use std::num::wrapping_add_u32;
+
+// The place in the input, how many cases there were, and how many answers differ from the expected ones.
+struct State {
+    at: usize,
+    cases: u32,
+    differ: u32,
+}
+
+// Prints a part of the text.
+fn print(text: &[u8], from: usize, to: usize) {
+    if to <= text.len() {
+        if from <= to {
+            io::write_all(STDOUT_FILENO, &text[from..to]);
+        }
+    }
+}
+
+// How many numbers of the call belong to a class.
+fn each(operation: u8) -> usize {
+    match operation {
+        b'c' => 1,
+        b'w' => 3,
+        _ => 2,
+    }
+}
+
+// The answer to a call. The rows are the numbers of the line's four parts.
+fn answer_to(
+    operation: u8,
+    slots: Row,
+    given: Row,
+    said: Row,
+    expected: Row,
+    text: &[u8],
+) -> Answer {
+    let call = call::read(said);
+    let f = given.signed;
+    let l = lists::grouped(said, each(operation));
+    let residues = l.residues;
+    let levels = l.levels;
+    let marks = l.marks;
+    match operation {
+        b's' => solving::solve(f, given.count, call, slots, expected),
+        b't' => solving::test(f, given.count, call),
+        b'r' => steps::steps(f, given.count, call, expected),
+        b'n' => next::next(residues, levels, call),
+        b'm' => maps::map(residues, levels, bytes::unused(), call, expected, text),
+        b'c' => maps::count_bytes(marks, call),
+        b'd' => maps::count_filled(bytes::unused(), call),
+        _ => writing::write(
+            residues,
+            levels,
+            marks,
+            bytes::unused(),
+            call,
+            expected,
+            text,
+        ),
+    }
+}
+
+// The letter of the answer that stands at a place: # for a number.
+fn letter_at(text: &[u8], at: usize) -> u8 {
+    let b = byte_at(text, at % 65536 + 1);
+    match b {
+        b'0'..=b'9' => b'#',
+        _ => b,
+    }
+}
+
+// One case: its line is printed, and another one if the answer differs.
+fn case(text: &[u8], s: State) -> State {
+    let operation = byte_at(text, s.at);
+    let slots = numbers(text, s.at, b';');
+    let given = numbers(text, slots.next, b'|');
+    let said = numbers(text, given.next, b':');
+    let expected = numbers(text, said.next, b'\n');
+    let a = answer_to(operation, slots, given, said, expected, text);
+    let same = a.same
+        & (a.letter == letter_at(text, said.next))
+        & (a.first == expected.item(0))
+        & (a.second == expected.item(1));
+    print(text, given.next, expected.next);
+    if !same {
+        io::write_all(STDOUT_FILENO, b"the answer differs\n");
+    }
+    State {
+        at: expected.next,
+        cases: s.cases % 1000 + 1,
+        differ: wrapping_add_u32(s.differ, !same as u32),
+    }
+}
+
+// One line: a case, which starts with a small letter, or what is printed as it is.
+fn line(text: &[u8], s: State) -> State {
+    if b'a' <= byte_at(text, s.at) {
+        return case(text, s);
+    }
+    let row = numbers(text, s.at, b'\n');
+    print(text, s.at, row.next);
+    State {
+        at: row.next,
+        cases: s.cases,
+        differ: s.differ,
+    }
+}
+
+// All lines, which are fewer than a thousand.
+fn run(text: &[u8]) -> State {
+    let mut s = State {
+        at: 0,
+        cases: 0,
+        differ: 0,
+    };
+    let mut i: u32 = 0;
+    while i < 1000 {
+        if text.len() <= s.at {
+            return s;
+        }
+        s = line(text, s);
+        i += 1;
+    }
+    s
+}
 
 fn main() {
-    let score = Score::new();
-    let score = marked::run(score);
-    let score = others::run(score);
-    let score = limits::run(score);
-    let score = testing::run(score);
-    let score = next::run(score);
-    let score = maps::run(score);
-    let score = failures::run(score);
-    score.print();
+    let mut buffer = io::large_buffer();
+    let n = io::read_full(STDIN_FILENO, &mut buffer);
+    let s = run(&buffer[..n]);
+    io::print_decimal(STDOUT_FILENO, s.cases as u64);
+    io::write_all(STDOUT_FILENO, b" cases, ");
+    io::print_decimal(STDOUT_FILENO, s.differ as u64);
+    io::write_all(STDOUT_FILENO, b" differ\n");
 }

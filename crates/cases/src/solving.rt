@@ -1,97 +1,94 @@
-// Cases of the solver: the call, its line, and the comparison with what is expected.
+// Cases of the solver and of the test.
+use crate::answer;
 use crate::answer::Answer;
-use crate::lists;
-use crate::lists::UNUSED;
-use crate::print;
-use crate::score::Score;
+use crate::call::Call;
+use crate::prefix;
+use crate::prefix::bytes_mut;
+use crate::prefix::words_mut;
+use crate::rows::Row;
 use solver::Solved;
+use solver::Tested;
 
-impl Score {
-    // A case that is accepted: the root count, and as many residues, levels and marks as there are classes.
-    pub(crate) fn found(
-        self,
-        polynomial: &[u8],
-        coefficients: &[i64],
-        p: u32,
-        n: u32,
-        roots: u64,
-        residues: &[u32],
-        levels: &[u8],
-        marks: &[u8],
-    ) -> Score {
-        let mut r = [UNUSED as u32; 65];
-        let mut l = [UNUSED; 65];
-        let mut m = [UNUSED; 65];
-        let a = solve(polynomial, coefficients, p, n, &mut r, &mut l, &mut m);
-        let same = lists::same_residues(&r, residues)
-            && lists::same_bytes(&l, levels)
-            && lists::same_bytes(&m, marks);
-        self.count(same && a.same(Answer::Found(roots, residues.len())))
-    }
-
-    // A case that is refused with place 0, however many slots there are.
-    pub(crate) fn refused(
-        self,
-        polynomial: &[u8],
-        coefficients: &[i64],
-        p: u32,
-        n: u32,
-        number: u32,
-    ) -> Score {
-        let mut r = [UNUSED as u32; 65];
-        let mut l = [UNUSED; 65];
-        let mut m = [UNUSED; 65];
-        let a = solve(polynomial, coefficients, p, n, &mut r, &mut l, &mut m);
-        self.count(unused(&r, &l, &m) && a.same(Answer::Refused(number, 0)))
-    }
-
-    // A case that is refused with these lists, whose slots are unused.
-    pub(crate) fn refused_lists(
-        self,
-        polynomial: &[u8],
-        coefficients: &[i64],
-        p: u32,
-        n: u32,
-        residues: &mut [u32],
-        levels: &mut [u8],
-        marks: &mut [u8],
-        number: u32,
-        place: usize,
-    ) -> Score {
-        let a = solve(polynomial, coefficients, p, n, residues, levels, marks);
-        self.count(unused(residues, levels, marks) && a.same(Answer::Refused(number, place)))
+// The number of slots of a list: 65 where none is given.
+fn slots(row: Row, i: usize) -> usize {
+    if row.count == 0 {
+        65
+    } else {
+        (row.item(i) % 67) as usize
     }
 }
 
-fn unused(residues: &[u32], levels: &[u8], marks: &[u8]) -> bool {
-    lists::same_residues(residues, &[])
-        && lists::same_bytes(levels, &[])
-        && lists::same_bytes(marks, &[])
-}
-
-// Solves, and prints the problem and the answer.
-fn solve(
-    polynomial: &[u8],
-    coefficients: &[i64],
-    p: u32,
-    n: u32,
-    residues: &mut [u32],
-    levels: &mut [u8],
-    marks: &mut [u8],
-) -> Answer {
-    print::text(polynomial);
-    print::modulus(p, n);
-    let a = answer(solver::solve(coefficients, p, n, residues, levels, marks));
-    a.print();
-    if let Answer::Found(_, k) = a {
-        lists::print_marked(residues, levels, marks, k);
+// The solver's answer. Every slot holds 77 before the call.
+pub(crate) fn solve(f: [i64; 256], c: usize, call: Call, given: Row, expected: Row) -> Answer {
+    let mut residues = [77u32; 66];
+    let mut levels = [77u8; 66];
+    let mut marks = [77u8; 66];
+    match solver::solve(
+        prefix::coefficients(&f, c),
+        call.p,
+        call.n,
+        words_mut(&mut residues, slots(given, 0)),
+        bytes_mut(&mut levels, slots(given, 1)),
+        bytes_mut(&mut marks, slots(given, 2)),
+    ) {
+        Solved::Found { classes, roots } => Answer {
+            letter: b'k',
+            first: classes as u64,
+            second: roots,
+            same: same(residues, levels, marks, classes, expected),
+        },
+        Solved::Refused(r) => answer::refused(r, same(residues, levels, marks, 0, expected)),
     }
-    a
 }
 
-fn answer(solved: Solved) -> Answer {
-    match solved {
-        Solved::Found { classes, roots } => Answer::Found(roots, classes),
-        Solved::Refused(r) => Answer::Refused(r.number(), r.place()),
+// Whether slot i has these numbers.
+fn is_slot(
+    residues: [u32; 66],
+    levels: [u8; 66],
+    marks: [u8; 66],
+    i: usize,
+    a: u64,
+    t: u64,
+    mark: u64,
+) -> bool {
+    let i = i % 66;
+    (residues[i] as u64 == a) & (levels[i] as u64 == t) & (marks[i] as u64 == mark)
+}
+
+// Whether the first k slots have the expected classes and marks, and the later ones 77.
+fn same(residues: [u32; 66], levels: [u8; 66], marks: [u8; 66], k: usize, expected: Row) -> bool {
+    let mut i: usize = 0;
+    while i < 66 {
+        let mut a = 77;
+        let mut t = 77;
+        let mut mark = 77;
+        if i < k {
+            a = expected.item(i * 2 + 2);
+            t = expected.item(i * 2 + 3);
+            mark = expected.item(i + k % 67 * 2 + 2);
+        }
+        if !is_slot(residues, levels, marks, i, a, t, mark) {
+            return false;
+        }
+        i += 1;
+    }
+    true
+}
+
+pub(crate) fn test(f: [i64; 256], c: usize, call: Call) -> Answer {
+    match solver::is_root(prefix::coefficients(&f, c), call.p, call.n, call.point) {
+        Tested::Yes => Answer {
+            letter: b'y',
+            first: 0,
+            second: 0,
+            same: true,
+        },
+        Tested::No => Answer {
+            letter: b'n',
+            first: 0,
+            second: 0,
+            same: true,
+        },
+        Tested::Refused(r) => answer::refused(r, true),
     }
 }

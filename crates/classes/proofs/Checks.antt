@@ -1,64 +1,31 @@
--- What the answer of a checked list says, and how its rules lead a longer list of rules.
-use mathlib.Core.Path.{_≡_, refl, sym, ap}
-use mathlib.Core.Bool.{Bool, true, false, not, _||_, _&&_}
-use mathlib.Core.List.{List, [], _∷_}
+-- What the answer of a checked list says, and the answer from the facts that the rules test.
+use mathlib.Core.Path.{_≡_, sym, ap, _∙_}
+use mathlib.Core.Bool.{Bool, true, false, not, _&&_}
+use mathlib.Core.List.{List, [], _∷_, _++_}
 use Prim.Native.Nat.{ℕ, _^_, _≤_, _<_, min}
 use native.Mathlib.Omega.{arith}
 use borrow.Author.Tests.{ltb-false, lt-ltb, le-ltb, not-false, eqb-true}
 use lib.Dec.{ltb, eqb}
-use lib.ListN.{length, getD}
+use lib.ListN.{length}
 use Rattle.theory.specs.Range.{least}
 use Rattle.theory.specs.Class.{Class}
-use Rattle.theory.proofs.Tests.{and-left, and-right, or-fails-left, or-fails-right}
+use Rattle.theory.proofs.Tests.{and-left, and-right}
 use Rattle.theory.proofs.Range.{before-least}
 use Rattle.refusal.specs.declared.Refusal.{Refusal}
 use Rattle.refusal.specs.declared.Refusal.the-variants.{Lengths, Entry}
-use Rattle.refusal.specs.Rules.{Verdict, passes, refuses, rule, tried, rule6, rule6Three}
-use Rattle.refusal.proofs.Rules.{rule6-refuses, rule6-passes}
+use Rattle.refusal.specs.Rules.{Verdict, passes, refuses, tried, rule6, rule6Three}
+use Rattle.refusal.proofs.Rules.{rule6-refuses, rule6-passes, rule-passes, tried-first, tried-both, tried-leads, tried-refuses}
 use Rattle.numbers.specs.declared.Modulus.the-variants.{Accepted, Refused}
-use Rattle.numbers.specs.Modulus.{rule4, rule5, powerOr, modulusOf}
-use Rattle.numbers.proofs.Rules.{Usable, usable, modulus-passes, refused-leads}
-use Rattle.classes.specs.Rule7.{classesOf, faultAt, markAbove, firstFault, firstMarkedFault, rule7, rule7Marked}
-use Rattle.classes.specs.Checked.{listVerdict, checkedOf}
-use Rattle.classes.specs.Search.{FaultlessTo}
+use Rattle.numbers.specs.Modulus.{modulusRules, powerOr, modulusOf, Usable}
+use Rattle.numbers.proofs.Rules.{accepted-means, refused-means, passes-usable, refused-leads, usable-leaves}
+use Rattle.classes.specs.Rule7.{classesOf, faultAt, firstFault, rule7}
+use Rattle.classes.specs.Checked.{givenRules, checkedOf}
+use Rattle.classes.specs.inner.Search.{FaultlessTo}
+use Rattle.classes.specs.inner.Usable.{Faultless, UsableList}
 use Rattle.classes.proofs.Entries.{classes-same-length}
-use Rattle.classes.proofs.Faults.{Faultless, faultless-list, faultless-few}
-
--- Four rules
-
--- none of the four applies
-pub record AllPass (a b c d : Verdict) : Type 0 where
-  pub first : a ≡ passes
-  pub second : b ≡ passes
-  pub third : c ≡ passes
-  pub fourth : d ≡ passes
-
--- pⁿ is the answer only where none applies
-pub all-accepted : (a b c d : Verdict) (x m : ℕ) → powerOr (tried (a ∷ b ∷ c ∷ d ∷ [])) x ≡ Accepted m → AllPass a b c d × (m ≡ x)
-all-accepted passes passes passes passes x m e = (record { first = refl; second = refl; third = refl; fourth = refl }, cc)
-all-accepted passes passes passes (refuses r) x m e = let z : _≡_ {A = ℕ} 0 1 = cc in absurd (omega arith)
-all-accepted passes passes (refuses r) d x m e = let z : _≡_ {A = ℕ} 0 1 = cc in absurd (omega arith)
-all-accepted passes (refuses r) c d x m e = let z : _≡_ {A = ℕ} 0 1 = cc in absurd (omega arith)
-all-accepted (refuses r) b c d x m e = let z : _≡_ {A = ℕ} 0 1 = cc in absurd (omega arith)
-
--- a refusal is that of any longer list
-pub first-refused : (a b c d : Verdict) (x : ℕ) (r : Refusal) → powerOr (tried (a ∷ b ∷ c ∷ d ∷ [])) x ≡ Refused r
-    → (rest : List Verdict) → tried (a ∷ b ∷ c ∷ d ∷ rest) ≡ refuses r
-first-refused passes passes passes passes x r e rest = let z : _≡_ {A = ℕ} 0 1 = cc in absurd (omega arith)
-first-refused passes passes passes (refuses s) x r e rest = ap refuses (cc)
-first-refused passes passes (refuses s) d x r e rest = ap refuses (cc)
-first-refused passes (refuses s) c d x r e rest = ap refuses (cc)
-first-refused (refuses s) b c d x r e rest = ap refuses (cc)
-
--- where none applies the others decide
-pub all-lead : (a b c d : Verdict) → AllPass a b c d → (rest : List Verdict) → tried (a ∷ b ∷ c ∷ d ∷ rest) ≡ tried rest
-all-lead a b c d k rest = rw (k .first, k .second, k .third, k .fourth)
+use Rattle.classes.proofs.Faults.{faultless-list, faultless-few}
 
 -- Each rule that passes
-
-rule-passes : (b : Bool) (r : Refusal) → rule b r ≡ passes → b ≡ false
-rule-passes true r e = let z : _≡_ {A = ℕ} 0 1 = cc in absurd (omega arith)
-rule-passes false r e = refl
 
 same-lengths : (a b : ℕ) → rule6 a b ≡ passes → a ≡ b
 same-lengths a b e = eqb-true a b (not-false (eqb a b) (rule-passes (not (eqb a b)) (Lengths (min a b)) e))
@@ -69,130 +36,102 @@ same-three-lengths a b c e =
     not-false (eqb a b && eqb a c) (rule-passes (not (eqb a b && eqb a c)) (Lengths (min a (min b c))) e) in
     (eqb-true a b (and-left (eqb a b) (eqb a c) both), eqb-true a c (and-right (eqb a b) (eqb a c) both))
 
+-- where the least of k tests is past the end, no test holds
+pub none-below : (f : ℕ → Bool) (k : ℕ) (r : Refusal) → ltb (least f k 0) k ≡ false → (j : ℕ) → j < k → f j ≡ false
+none-below f k r e j h = before-least f k 0 j (omega arith) (omega (arith, ltb-false (least f k 0) k e))
+
 -- a list that rule 7 passes has no fault
-pub rule7-faultless : (p n : ℕ) (L : List Class) → rule7 p n L ≡ passes → FaultlessTo p n L (length L)
+rule7-faultless : (p n : ℕ) (L : List Class) → rule7 p n L ≡ passes → FaultlessTo p n L (length L)
 unfolding rule7 firstFault
 rule7-faultless p n L e =
-    let k = length L in
-    let none : k ≤ least (faultAt p n L) k 0 =
-    ltb-false (least (faultAt p n L) k 0) k (rule-passes (ltb (firstFault p n L) k) (Entry (firstFault p n L)) e) in
-    record { faultless = λ j h. before-least (faultAt p n L) k 0 j (omega arith) (omega arith) }
+    record {
+      faultless = none-below (faultAt p n L) (length L) (Entry (firstFault p n L))
+          (rule-passes (ltb (firstFault p n L) (length L)) (Entry (firstFault p n L)) e);
+    }
 
--- and, with marks, no mark above 1
-pub rule7-marked-faultless : (p n : ℕ) (L : List Class) (marks : List ℕ) → rule7Marked p n L marks ≡ passes
-    → FaultlessTo p n L (length L) × ((i : ℕ) → i < length L → getD marks i 0 ≤ 1)
-unfolding rule7Marked firstMarkedFault markAbove
-rule7-marked-faultless p n L marks e = (
-  record { faultless = λ j h. or-fails-left (faultAt p n L j) (markAbove marks j) (neither j h) },
-  λ j h. ltb-false 1 (getD marks j 0) (or-fails-right (faultAt p n L j) (markAbove marks j) (neither j h)),
-)
-  where
-    k : ℕ
-    k = length L
-
-    f : ℕ → Bool
-    f i = faultAt p n L i || markAbove marks i
-
-    none : k ≤ least f k 0
-    none = ltb-false (least f k 0) k (rule-passes (ltb (firstMarkedFault p n L marks) k) (Entry (firstMarkedFault p n L marks)) e)
-
-    neither : (j : ℕ) → j < k → f j ≡ false
-    neither j h = before-least f k 0 j (omega arith) (omega (arith, none))
-
-pub rule7-refuses : (p n : ℕ) (L : List Class) → firstFault p n L < length L → rule7 p n L ≡ refuses (Entry (firstFault p n L))
+rule7-refuses : (p n : ℕ) (L : List Class) → firstFault p n L < length L → rule7 p n L ≡ refuses (Entry (firstFault p n L))
 unfolding rule7
 rule7-refuses p n L h = rw (lt-ltb (firstFault p n L) (length L) h)
 
-pub rule7-passes : (p n : ℕ) (L : List Class) → length L ≤ firstFault p n L → rule7 p n L ≡ passes
+rule7-passes : (p n : ℕ) (L : List Class) → length L ≤ firstFault p n L → rule7 p n L ≡ passes
 unfolding rule7
 rule7-passes p n L h = rw (le-ltb (firstFault p n L) (length L) h)
 
 -- The checked list
 
--- a list that the rules accept, with m for pⁿ
-pub record Checked (p n : ℕ) (residues levels : List ℕ) (m : ℕ) : Type 0 where
-  pub usable : Usable p n m
-  pub same-length : length residues ≡ length levels
-  pub passes6 : rule6 (length residues) (length levels) ≡ passes
-  pub passes7 : rule7 p n (classesOf residues levels) ≡ passes
-  pub faultless : Faultless p n (classesOf residues levels)
-  pub few : length residues ≤ m
-
 module _ (p n : ℕ) (residues levels : List ℕ) where
   abbrev L : List Class
   L = classesOf residues levels
 
-  abbrev six : Verdict
-  six = rule6 (length residues) (length levels)
+  abbrev own : List Verdict
+  own = rule6 (length residues) (length levels) ∷ rule7 p n (classesOf residues levels) ∷ []
 
   -- what an accepted list has
-  pub checked-accepted : (m : ℕ) → checkedOf p n residues levels ≡ Accepted m → Checked p n residues levels m
+  pub checked-accepted : (m : ℕ) → checkedOf p n residues levels ≡ Accepted m → UsableList p n residues levels m
   unfolding checkedOf
-  checked-accepted m e = go (all-accepted (rule4 p) (rule5 p n) six (rule7 p n L) (p ^ n) m e)
-    where
-      go : AllPass (rule4 p) (rule5 p n) six (rule7 p n L) × (m ≡ p ^ n) → Checked p n residues levels m
-      go (k, q) =
-          let U : Usable p n m = rw q (usable p n (p ^ n) (modulus-passes p n (k .first) (k .second))) in
-          let same = same-lengths (length residues) (length levels) (k .third) in
-          let F : Faultless p n L = faultless-list p n L (rule7-faultless p n L (k .fourth)) in
-          record {
-            usable = U;
-            same-length = same;
-            passes6 = k .third;
-            passes7 = k .fourth;
-            faultless = F;
-            few = rw q (omega (arith, faultless-few p n L (omega (arith, U .prime .two)) F, classes-same-length residues levels same));
-          }
+  checked-accepted m e =
+      let both = accepted-means (tried (givenRules p n residues levels)) (p ^ n) m e in
+      let parts = tried-both (modulusRules p n) own (both .0) in
+      let own-parts = tried-first (rule6 (length residues) (length levels)) (rule7 p n L ∷ []) (parts .1) in
+      let U = passes-usable p n (parts .0) m (both .1) in
+      let same = same-lengths (length residues) (length levels) (own-parts .0) in
+      let F : Faultless p n L = faultless-list p n L (rule7-faultless p n L (tried-first (rule7 p n L) [] (own-parts .1) .0)) in
+      record {
+        accepted = both .0;
+        modulus = U;
+        same-length = same;
+        faultless = F;
+        few =
+            omega (
+              arith,
+              both .1,
+              faultless-few p n L (omega (arith, U .prime .two)) F,
+              classes-same-length residues levels same,
+            );
+      }
 
   -- a refusal is that of any longer list of rules that begins with these
   pub checked-refused : (r : Refusal) → checkedOf p n residues levels ≡ Refused r → (rest : List Verdict)
-      → tried (rule4 p ∷ rule5 p n ∷ rule6 (length residues) (length levels) ∷ rule7 p n (classesOf residues levels) ∷ rest) ≡ refuses r
+      → tried (givenRules p n residues levels ++ rest) ≡ refuses r
   unfolding checkedOf
-  checked-refused r e = first-refused (rule4 p) (rule5 p n) six (rule7 p n L) (p ^ n) r e
+  checked-refused r e rest =
+      tried-refuses (givenRules p n residues levels) rest r (refused-means (tried (givenRules p n residues levels)) (p ^ n) r e)
 
   -- and where they accept, the others decide
-  pub checked-leads : (m : ℕ) → Checked p n residues levels m → (rest : List Verdict)
-      → tried (rule4 p ∷ rule5 p n ∷ rule6 (length residues) (length levels) ∷ rule7 p n (classesOf residues levels) ∷ rest) ≡ tried rest
-  checked-leads m C =
-      all-lead (rule4 p) (rule5 p n) six (rule7 p n L)
-      (record { first = C .usable .passes4; second = C .usable .passes5; third = C .passes6; fourth = C .passes7 })
-
-  pub checked-verdict : (m : ℕ) → Checked p n residues levels m → listVerdict p n residues levels ≡ passes
-  unfolding listVerdict
-  checked-verdict m C = checked-leads m C []
+  pub checked-leads : {m : ℕ} → UsableList p n residues levels m → (rest : List Verdict)
+      → tried (givenRules p n residues levels ++ rest) ≡ tried rest
+  checked-leads C rest = tried-leads (givenRules p n residues levels) rest (C .accepted)
 
   -- a refusal by the rules on p and n
   pub checked-modulus : (r : Refusal) → modulusOf p n ≡ Refused r → checkedOf p n residues levels ≡ Refused r
-  unfolding checkedOf listVerdict
-  checked-modulus r e = ap (λ v. powerOr v (p ^ n)) (refused-leads p n r e (six ∷ rule7 p n L ∷ []))
+  unfolding checkedOf
+  checked-modulus r e = ap (λ v. powerOr v (p ^ n)) (refused-leads p n r e own)
 
   -- the answer from the facts that the rules test
-  module _ (m : ℕ) (U : Usable p n m) where
+  module _ {m : ℕ} (U : Usable p n m) where
     -- by rule 6
     pub checked-6 : (length residues ≡ length levels → ⊥)
         → checkedOf p n residues levels ≡ Refused (Lengths (min (length residues) (length levels)))
-    unfolding checkedOf listVerdict
-    checked-6 h = rw (U .passes4, U .passes5, rule6-refuses (length residues) (length levels) h)
+    unfolding checkedOf
+    checked-6 h = usable-leaves U own ∙ rw (rule6-refuses (length residues) (length levels) h)
 
     module _ (same : length residues ≡ length levels) (i : ℕ) (e : i ≡ firstFault p n L) where
       -- by rule 7
       pub checked-7 : i < length residues → checkedOf p n residues levels ≡ Refused (Entry i)
-      unfolding checkedOf listVerdict
+      unfolding checkedOf
       checked-7 h =
-          rw (
-            U .passes4,
-            U .passes5,
+          usable-leaves U own
+          ∙ rw (
             rule6-passes (length residues) (length levels) same,
             rule7-refuses p n L (omega (arith, classes-same-length residues levels same)),
           ) (ap (λ (k : ℕ). Refused (Entry k)) (sym e))
 
       -- by none
       pub checked-passes : length residues ≤ i → checkedOf p n residues levels ≡ Accepted m
-      unfolding checkedOf listVerdict
+      unfolding checkedOf
       checked-passes h =
-          rw (
-            U .passes4,
-            U .passes5,
+          usable-leaves U own
+          ∙ rw (
             rule6-passes (length residues) (length levels) same,
             rule7-passes p n L (omega (arith, classes-same-length residues levels same)),
-          ) (ap Accepted (sym (U .power)))
+          )

@@ -1,10 +1,10 @@
 -- What a list has whose first entries have no fault.
-use mathlib.Core.Path.{_≡_, refl}
+use mathlib.Core.Path.{_≡_, refl, sym, ap, _∙_}
 use mathlib.Core.Logic.{_⊎_, inl, inr}
 use mathlib.Core.Bool.{Bool, true, false, not, _||_}
 use mathlib.Core.List.{List}
 use Prim.Native.Nat.{ℕ, zero, suc, _+_, _-_, _^_, _≤_, _<_}
-use native.Mathlib.Nat.{eq-or-lt-of-le, le-trans, pow-le-pow-right}
+use native.Mathlib.Nat.{eq-or-lt-of-le, pow-le-pow-right}
 use native.Mathlib.Decide.{decLt}
 use native.Mathlib.Omega.{arith}
 use borrow.Author.Count.{below-more}
@@ -13,13 +13,16 @@ use lib.Dec.{leb}
 use lib.ListN.{length, getD}
 use Rattle.theory.specs.Lists.{In}
 use Rattle.theory.specs.Range.{allBelow}
-use Rattle.theory.specs.Class.{Class, class, IsClass, share}
-use Rattle.theory.specs.ThirdDemand.{slot}
-use Rattle.theory.proofs.Tests.{or-fails-left, or-fails-right}
-use Rattle.theory.proofs.Lists.Index.{index-of}
+use Rattle.theory.specs.Class.{Class, class, IsClass, Member, share}
+use Rattle.theory.specs.ClassList.{slot, levelsOf, memberTotal}
+use Rattle.theory.proofs.Tests.{contradiction, or-fails-left, or-fails-right}
+use Rattle.theory.proofs.Lists.Index.{index-of, no-repeat-at}
+use Rattle.theory.proofs.Classes.Share.{common-share}
+use Rattle.theory.proofs.Classes.Sum.{disjoint-most}
 use Rattle.theory.proofs.Range.{all-elim}
 use Rattle.classes.specs.Rule7.{classesOf, levelAbove, residueOutside, notAbove, sharedEarlier, faultAt, firstFault}
-use Rattle.classes.specs.Search.{FaultlessTo}
+use Rattle.classes.specs.inner.Search.{FaultlessTo}
+use Rattle.classes.specs.inner.Usable.{Faultless}
 use Rattle.classes.proofs.Entries.{classes-slot, classes-same-length}
 use Rattle.theory.proofs.Least.{least-is}
 
@@ -114,12 +117,6 @@ first-fault-is p n L i h F at =
 
 -- The whole list
 
--- each entry is a class, residues rise, and no two entries share a member
-pub record Faultless (p n : ℕ) (L : List Class) : Type 0 where
-  pub class-at : (i : ℕ) → i < length L → IsClass p n (slot L i)
-  pub rises : (i j : ℕ) → i < j → j < length L → slot L i .residue < slot L j .residue
-  pub apart : (i j : ℕ) → i < j → j < length L → share p (slot L i) (slot L j) ≡ false
-
 -- a list without a fault has all that
 pub faultless-list : (p n : ℕ) (L : List Class) → FaultlessTo p n L (length L) → Faultless p n L
 faultless-list p n L F =
@@ -154,6 +151,24 @@ pub faultless-entry : (p n : ℕ) (residues levels : List ℕ) → length residu
 faultless-entry p n residues levels same F i h =
     rw (classes-slot residues levels i h (omega arith)) at (F .class-at i (omega (arith, classes-same-length residues levels same)))
 
--- the power of a level up to n fits where pⁿ does
-pub level-power : (p n t m : ℕ) → 2 ≤ p → t ≤ n → p ^ n ≤ m → p ^ t ≤ m
-level-power p n t m two h l = le-trans (pow-le-pow-right {n = p} (omega arith) {i = t} {j = n} h) l
+-- its classes share no member, so together they have at most pⁿ
+pub faultless-most : (p n : ℕ) (L : List Class) → 0 < p → Faultless p n L → memberTotal p n (levelsOf L) ≤ p ^ n
+faultless-most p n L pos F =
+    disjoint-most p n pos L (faultless-in p n L F)
+    (no-repeat-at L (class 0 0) (λ i j h l e. omega (arith, F .rises i j h l, ap (λ (c : Class). c .residue) e))) apart
+  where
+    clash : (i j : ℕ) → i < j → j < length L → (r : ℕ) → Member p n (slot L i) r → Member p n (slot L j) r → ⊥
+    clash i j h l r u v =
+        contradiction (common-share p n pos (slot L i) (slot L j) (record { residue = r; of-first = u; of-second = v })) (F .apart i j h l)
+
+    apart : (c d : Class) → In c L → In d L → (r : ℕ) → Member p n c r → Member p n d r → c ≡ d
+    apart c d u v r mc md =
+        let (i, hi, ei) = index-of L (class 0 0) c u in
+        let (j, hj, ej) = index-of L (class 0 0) d v in
+        ei ∙ go i j hi hj (rw ei at mc) (rw ej at md) (decLt i j) (decLt j i) ∙ sym ej
+      where
+        go : (i j : ℕ) → i < length L → j < length L → Member p n (slot L i) r → Member p n (slot L j) r → Dec (i < j) → Dec (j < i)
+            → slot L i ≡ slot L j
+        go i j hi hj mi mj (yes h) w = absurd (clash i j h hj r mi mj)
+        go i j hi hj mi mj (no h) (yes k) = absurd (clash j i k hi r mj mi)
+        go i j hi hj mi mj (no h) (no k) = let e : i ≡ j = omega arith in ap (slot L) e

@@ -11,13 +11,14 @@ use lib.ListN.{length, getD, take}
 use Rattle.theory.specs.Range.{least}
 use Rattle.theory.specs.Class.{Class, class, isMember}
 use Rattle.theory.specs.ClassList.{members}
-use Rattle.theory.specs.ThirdDemand.{slot}
+use Rattle.theory.specs.ClassList.{slot}
 use Rattle.theory.proofs.Lists.Fill.{take-next}
 use Rattle.theory.proofs.Range.{least-agree, least-range}
 use Rattle.classes.specs.Rule7.{classesOf}
-use Rattle.classes.specs.Next.{memberFrom}
+use Rattle.classes.specs.inner.Search.{memberFrom}
 use Rattle.classes.proofs.Entries.{classes-slot, classes-same-length}
-use Rattle.classes.proofs.Faults.{Faultless, faultless-entry}
+use Rattle.classes.specs.inner.Usable.{Faultless}
+use Rattle.classes.proofs.Faults.{faultless-entry}
 use Rattle.theory.proofs.Least.{least-is, least-or}
 use Rattle.theory.proofs.Classes.Members.{members-snoc}
 

@@ -11,7 +11,7 @@ use lib.ListN.{getD}
 use Rattle.theory.specs.Range.{least}
 use Rattle.theory.proofs.Tests.{contradiction}
 use Rattle.theory.proofs.Range.{some-passes, none-passes, none-found, before-least, least-found}
-use Rattle.classes.specs.Search.{RisingTo, placeOf, listedBefore, containedBefore}
+use Rattle.classes.specs.inner.Search.{RisingTo, firstNotBelow, listedBefore, containedBefore}
 use Rattle.theory.proofs.Least.{least-is}
 
 -- Bisection
@@ -35,8 +35,8 @@ module _ (l : List ℕ) (i : ℕ) (R : RisingTo l i) (x middle : ℕ) (h : middl
 
 -- the place from what stands before and after it
 pub place-is : (l : List ℕ) (i x j : ℕ) → j ≤ i → ((k : ℕ) → k < j → getD l k 0 < x) → ((k : ℕ) → j ≤ k → k < i → x ≤ getD l k 0)
-    → placeOf l i x ≡ j
-unfolding placeOf
+    → firstNotBelow l i x ≡ j
+unfolding firstNotBelow
 place-is l i x j h below above =
     least-is (λ k. leb x (getD l k 0)) i 0 j (omega arith) (omega arith) (λ k low u. lt-leb x (getD l k 0) (below k u))
     (λ u. le-leb x (getD l j 0) (above j (omega arith) (omega arith)))
@@ -49,23 +49,24 @@ module _ (residues levels : List ℕ) (i a t : ℕ) where
   not-listed h =
       none-passes (λ k. eqb (getD residues k 0) a && eqb (getD levels k 0) t) i (λ k l. rw (ne-eqb (getD residues k 0) a (h k l)))
 
-  before-place : (k : ℕ) → k < placeOf residues i a → getD residues k 0 < a
-  unfolding placeOf
+  before-place : (k : ℕ) → k < firstNotBelow residues i a → getD residues k 0 < a
+  unfolding firstNotBelow
   before-place k h = leb-false a (getD residues k 0) (before-least (λ j. leb a (getD residues j 0)) i 0 k (omega arith) h)
 
-  at-place : placeOf residues i a < i → a ≤ getD residues (placeOf residues i a) 0
-  unfolding placeOf
+  at-place : firstNotBelow residues i a < i → a ≤ getD residues (firstNotBelow residues i a) 0
+  unfolding firstNotBelow
   at-place h =
       let f : ℕ → Bool = λ j. leb a (getD residues j 0) in
       leb-true a (getD residues (least f i 0) 0) (least-found f i 0 (omega arith))
 
   -- all the first i are below a
-  pub place-past : (j : ℕ) → j ≡ placeOf residues i a → i ≤ j → listedBefore residues levels i a t ≡ false
+  pub place-past : (j : ℕ) → j ≡ firstNotBelow residues i a → i ≤ j → listedBefore residues levels i a t ≡ false
   place-past j q h = not-listed (λ k l e. omega (arith, before-place k (omega arith)))
 
   module _ (R : RisingTo residues i) where
     -- the first that is not below a is above it
-    pub place-above : (j : ℕ) → j ≡ placeOf residues i a → j < i → (getD residues j 0 ≡ a → ⊥) → listedBefore residues levels i a t ≡ false
+    pub place-above : (j : ℕ) → j ≡ firstNotBelow residues i a → j < i → (getD residues j 0 ≡ a → ⊥)
+        → listedBefore residues levels i a t ≡ false
     place-above j q h ne = not-listed (λ k l e. go k l e (decLt k j))
       where
         above : a < getD residues j 0

@@ -1,5 +1,5 @@
 -- An earlier entry has a smaller residue, so it shares a member with entry i only if it contains it.
-use mathlib.Core.Path.{_≡_, refl, sym, ap, _∙_}
+use mathlib.Core.Path.{_≡_, sym, ap, _∙_}
 use mathlib.Core.Bool.{Bool, true, false, _||_, _&&_}
 use mathlib.Core.List.{List}
 use Prim.Native.Nat.{ℕ, _-_, _%_, _^_, _≤_, _<_, min}
@@ -10,10 +10,10 @@ use borrow.Author.Tests.{eqb-true, eq-eqb, lt-ltb, le-ltb, le-leb, lt-leb}
 use lib.Dec.{eqb, leb}
 use lib.ListN.{length, getD}
 use Rattle.theory.specs.Class.{Class, class, IsClass, share}
-use Rattle.theory.specs.ThirdDemand.{slot}
-use Rattle.theory.proofs.Tests.{contradiction, not-holding, and-left, and-right, or-left, or-right}
+use Rattle.theory.specs.ClassList.{slot}
+use Rattle.theory.proofs.Tests.{contradiction, not-holding, same-failure, and-left, and-right, or-left, or-right}
 use Rattle.classes.specs.Rule7.{classesOf, levelAbove, residueOutside, notAbove, sharedEarlier, faultAt}
-use Rattle.classes.specs.Search.{RisingTo, FaultlessTo, listedBefore, containedBefore}
+use Rattle.classes.specs.inner.Search.{RisingTo, FaultlessTo, listedBefore, containedBefore}
 use Rattle.classes.proofs.Entries.{classes-slot}
 use Rattle.classes.proofs.Faults.{entry-class, not-above-at, not-above-first, entries-rise, entries-below}
 use Rattle.theory.proofs.Range.{none-passes, none-found}
@@ -49,12 +49,6 @@ containing-shares p c d l e =
     let q : min (c .level) (d .level) ≡ c .level = omega arith in
     eq-eqb (c .residue % p ^ min (c .level) (d .level)) (d .residue % p ^ min (c .level) (d .level))
     (rw q (ap (λ (x : ℕ). x % p ^ (c .level)) e ∙ mod-mod (d .residue) (p ^ (c .level))))
-
--- two tests that fail together are equal
-same-failure : (a b : Bool) → (a ≡ false → b ≡ false) → (b ≡ false → a ≡ false) → a ≡ b
-same-failure true true f g = refl
-same-failure true false f g = g refl
-same-failure false b f g = sym (f refl)
 
 -- Entry i of a lent list
 

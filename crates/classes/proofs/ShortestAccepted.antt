@@ -1,7 +1,7 @@
 -- The converse of rule 7: a list that has what the rule asks passes it, and the list of largest whole classes is one.
 use mathlib.Core.Path.{_≡_, sym, _∙_}
 use mathlib.Core.Bool.{Bool, true, false}
-use mathlib.Core.List.{List, map}
+use mathlib.Core.List.{List}
 use Prim.Native.Nat.{ℕ, _-_, _^_, _<_}
 use native.Mathlib.Decide.{decLt}
 use native.Mathlib.Omega.{arith}
@@ -9,19 +9,20 @@ use borrow.Author.Tests.{le-ltb, lt-leb}
 use lib.ListN.{length, length-map}
 use Rattle.theory.specs.Class.{Class, class, share}
 use Rattle.theory.specs.Shortest.{shortest}
-use Rattle.theory.specs.ThirdDemand.{slot}
+use Rattle.theory.specs.ClassList.{slot, residuesOf, levelsOf}
 use Rattle.theory.proofs.Tests.{not-holding}
 use Rattle.theory.proofs.Lists.Index.{in-at, same-index}
 use Rattle.theory.proofs.Classes.Cover.{shortest-rival, shortest-disjoint, shortest-no-repeat}
 use Rattle.theory.proofs.Classes.Rising.{rising-at, shortest-rising}
 use Rattle.theory.proofs.Classes.Share.{Common, share-common}
 use Rattle.numbers.specs.declared.Modulus.the-variants.{Accepted}
-use Rattle.numbers.proofs.Rules.{Usable}
+use Rattle.numbers.specs.Modulus.{Usable}
 use Rattle.classes.specs.Rule7.{classesOf, levelAbove, residueOutside, notAbove, sharedEarlier, faultAt, firstFault}
 use Rattle.classes.specs.Checked.{checkedOf}
 use Rattle.classes.proofs.Entries.{classes-of-parts}
 use Rattle.theory.proofs.Range.{none-passes}
-use Rattle.classes.proofs.Faults.{Faultless, not-above-at, not-above-first, first-fault-is}
+use Rattle.classes.specs.inner.Usable.{Faultless}
+use Rattle.classes.proofs.Faults.{not-above-at, not-above-first, first-fault-is}
 use Rattle.classes.proofs.Checks.{checked-passes}
 
 module _ (p n : ℕ) (L : List Class) (F : Faultless p n L) where
@@ -74,13 +75,13 @@ module _ (S : ℕ → Bool) (p n : ℕ) (pos : 0 < p) where
 
 -- the residues and levels of the shortest list are accepted
 pub shortest-accepted : (S : ℕ → Bool) (p n m : ℕ) → Usable p n m
-    → checkedOf p n (map (λ (c : Class). c .residue) (shortest S p n)) (map (λ (c : Class). c .level) (shortest S p n)) ≡ Accepted m
+    → checkedOf p n (residuesOf (shortest S p n)) (levelsOf (shortest S p n)) ≡ Accepted m
 shortest-accepted S p n m U =
     let L = shortest S p n in
-    let residues = map (λ (c : Class). c .residue) L in
-    let levels = map (λ (c : Class). c .level) L in
+    let residues = residuesOf L in
+    let levels = levelsOf L in
     let nr : length residues ≡ length L = length-map L (λ (c : Class). c .residue) in
     let nl : length levels ≡ length L = length-map L (λ (c : Class). c .level) in
     let first : length L ≡ firstFault p n (classesOf residues levels) =
     rw (classes-of-parts L) (sym (faultless-first p n L (shortest-faultless S p n (omega (arith, U .prime .two))))) in
-    checked-passes p n residues levels m U (omega arith) (length L) first (omega arith)
+    checked-passes p n residues levels U (omega arith) (length L) first (omega arith)

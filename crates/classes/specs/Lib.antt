@@ -1,5 +1,5 @@
--- Lent class lists: rules 6 and 7, and what they leave.
+-- Lent class lists: rules 6 and 7, what they leave, and next.
 pub mod Rule7
 pub mod Checked
-pub mod Search
 pub mod Next
+pub mod inner

@@ -6,7 +6,7 @@ use lib.Dec.{ltb, leb}
 use lib.ListN.{length, getD}
 use Rattle.theory.specs.Range.{allBelow, least}
 use Rattle.theory.specs.Class.{Class, class, share}
-use Rattle.theory.specs.ThirdDemand.{slot}
+use Rattle.theory.specs.ClassList.{slot}
 use Rattle.refusal.specs.declared.Refusal.the-variants.{Entry}
 use Rattle.refusal.specs.Rules.{Verdict, rule}
 

@@ -3,13 +3,12 @@ ghost use mathlib.Core.Path.{_≡_};
 ghost use Prim.Native.Nat.{_^_, _≤_, _<_};
 ghost use lib.ListN.{length};
 ghost use Rattle.classes.specs.Rule7.{classesOf, faultAt, firstFault};
-ghost use Rattle.classes.specs.Search.{RisingTo, FaultlessTo, placeOf, listedBefore, containedBefore, firstHighMark};
-use numbers::Power;
+ghost use Rattle.classes.specs.inner.Search.{RisingTo, FaultlessTo, firstNotBelow, listedBefore, containedBefore, firstHighMark};
 
 // The first of the first i residues that is not below x, by bisection; i where all are.
-fn place(residues: &[u32], i: usize, x: u64) -> usize
+fn first_not_below(residues: &[u32], i: usize, x: u64) -> usize
     requires { ⌜ (i ≤ length (now residues)) × RisingTo (now residues) i ⌝ }
-    ensures { λ r. ⌜ r ≡ placeOf (now (residues .entry)) i x ⌝ }
+    ensures { λ r. ⌜ r ≡ firstNotBelow (now (residues .entry)) i x ⌝ }
 {
     let mut low: usize = 0;
     let mut high = i;
@@ -29,7 +28,7 @@ fn listed(residues: &[u32], levels: &[u8], i: usize, a: u64, t: u8) -> bool
     requires { ⌜ (i ≤ length (now residues)) × (i ≤ length (now levels)) × RisingTo (now residues) i ⌝ }
     ensures { λ r. ⌜ r ≡ listedBefore (now (residues .entry)) (now (levels .entry)) i a t ⌝ }
 {
-    let j = place(residues, i, a);
+    let j = first_not_below(residues, i, a);
     if i <= j {
         return false;
     }
@@ -58,17 +57,6 @@ fn contained(p: u32, residues: &[u32], levels: &[u8], i: usize, a: u64, t: u8) -
     false
 }
 
-// p^t, where it is within the limit.
-pub(crate) fn power(p: u32, t: u32) -> u64
-    requires { ⌜ p ^ t ≤ 4294967295 ⌝ }
-    ensures { λ r. ⌜ r ≡ p ^ t ⌝ }
-{
-    match numbers::power_within(p, t) {
-        Power::Within(q) => q,
-        Power::Over => 0,
-    }
-}
-
 // Whether entry i has a fault, where none before it has. An earlier entry has a smaller residue, so it shares a member with entry i only if
 // it contains it.
 fn fault(p: u32, n: u32, residues: &[u32], levels: &[u8], i: usize) -> bool
@@ -81,7 +69,7 @@ fn fault(p: u32, n: u32, residues: &[u32], levels: &[u8], i: usize) -> bool
     if n < t as u32 {
         return true;
     }
-    if power(p, t as u32) <= a as u64 {
+    if numbers::power(p, t as u32) <= a as u64 {
         return true;
     }
     if 0 < i {

@@ -1,7 +1,6 @@
 // Lent class lists: rule 7, and the next root.
 ghost use mathlib.Core.Path.{_≡_};
-ghost use Prim.Native.Nat.{min};
-ghost use Rattle.numbers.proofs.Rules.{Usable};
+ghost use Rattle.numbers.specs.Modulus.{Usable};
 ghost use Rattle.classes.specs.Checked.{checkedOf, markedCheckedOf};
 use numbers::Modulus;
 use refusal::Refusal;
@@ -28,7 +27,7 @@ fn check_entries(p: u32, n: u32, m: u64, residues: &[u32], levels: &[u8]) -> Mod
     ensures { λ r. ⌜ r ≡ checkedOf p n (now (residues .entry)) (now (levels .entry)) ⌝ }
 {
     if residues.len() != levels.len() {
-        return Modulus::Refused(Refusal::Lengths(least(residues.len(), levels.len())));
+        return Modulus::Refused(Refusal::Lengths(numbers::smaller(residues.len(), levels.len())));
     }
     let i = fault::first_fault(p, n, residues, levels);
     if i < residues.len() {
@@ -61,19 +60,16 @@ fn check_marked_entries(
 {
     let k = residues.len();
     if k != levels.len() || k != marks.len() {
-        return Modulus::Refused(Refusal::Lengths(least(k, least(levels.len(), marks.len()))));
+        return Modulus::Refused(Refusal::Lengths(numbers::smaller(
+            k,
+            numbers::smaller(levels.len(), marks.len()),
+        )));
     }
     let i = fault::first_fault(p, n, residues, levels);
     let j = fault::first_high_mark(marks);
-    let first = least(i, j);
+    let first = numbers::smaller(i, j);
     if first < k {
         return Modulus::Refused(Refusal::Entry(first));
     }
     Modulus::Accepted(m)
-}
-
-fn least(a: usize, b: usize) -> usize
-    ensures { λ r. ⌜ r ≡ min a b ⌝ }
-{
-    if a < b { a } else { b }
 }

@@ -1,12 +1,12 @@
 // The next root: the least member of a list of classes at or after a point.
 ghost use mathlib.Core.Path.{_≡_};
-ghost use Prim.Native.Nat.{_-_, _≤_, _<_, min};
+ghost use Prim.Native.Nat.{_-_, _≤_, _<_};
 ghost use Rattle.theory.specs.Range.{least as leastOf};
 ghost use Rattle.theory.specs.ClassList.{members};
-ghost use Rattle.numbers.specs.declared.Modulus.the-variants.{Accepted};
 ghost use Rattle.classes.specs.Rule7.{classesOf};
-ghost use Rattle.classes.specs.Checked.{checkedOf};
-ghost use Rattle.classes.specs.Next.{nextOf, memberFrom};
+ghost use Rattle.classes.specs.inner.Usable.{UsableList};
+ghost use Rattle.classes.specs.Next.{nextOf};
+ghost use Rattle.classes.specs.inner.Search.{memberFrom};
 use numbers::Modulus;
 use refusal::Refusal;
 
@@ -30,7 +30,7 @@ pub fn next_root(p: u32, n: u32, residues: &[u32], levels: &[u8], point: u32) ->
 
 // Rule 8, and the answer for an accepted list.
 fn next_member(p: u32, n: u32, m: u64, residues: &[u32], levels: &[u8], point: u32) -> Next
-    requires { ⌜ checkedOf p n (now residues) (now levels) ≡ Accepted m ⌝ }
+    requires { ⌜ UsableList p n (now residues) (now levels) m ⌝ }
     ensures { λ r. ⌜ r ≡ nextOf p n (now (residues .entry)) (now (levels .entry)) point ⌝ }
 {
     if m <= point as u64 {
@@ -45,14 +45,17 @@ fn next_member(p: u32, n: u32, m: u64, residues: &[u32], levels: &[u8], point: u
 
 // The least member from the point on, and pⁿ where there is none.
 fn least_member(p: u32, n: u32, m: u64, residues: &[u32], levels: &[u8], point: u64) -> u64
-    requires { ⌜ (checkedOf p n (now residues) (now levels) ≡ Accepted m) × (point ≤ m) ⌝ }
+    requires { ⌜ UsableList p n (now residues) (now levels) m × (point ≤ m) ⌝ }
     ensures { λ r. ⌜ r ≡ leastOf (members p (classesOf (now (residues .entry)) (now (levels .entry)))) (m - point) point ⌝ }
 {
     let mut best = m;
     let mut i: usize = 0;
     while i < residues.len() {
-        let q = crate::fault::power(p, levels[i] as u32);
-        best = smaller(best, member_from(residues[i] as u64, q, point));
+        let q = numbers::power(p, levels[i] as u32);
+        let r = member_from(residues[i] as u64, q, point);
+        if r < best {
+            best = r;
+        }
         i += 1;
     }
     best
@@ -67,10 +70,4 @@ fn member_from(a: u64, q: u64, point: u64) -> u64
         return a;
     }
     a + (point - a + (q - 1)) / q * q
-}
-
-fn smaller(a: u64, b: u64) -> u64
-    ensures { λ r. ⌜ r ≡ min a b ⌝ }
-{
-    if a < b { a } else { b }
 }

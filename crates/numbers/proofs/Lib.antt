@@ -1,3 +1,3 @@
--- Laws of the crate's definitions.
-pub mod Limit
+-- Laws of the numbers that several crates need.
+pub mod Saturated
 pub mod Rules

@@ -1,108 +1,89 @@
--- The rules on p and n: what an accepted pair has, and how the two rules lead a longer list of rules.
-use mathlib.Core.Path.{_≡_, refl, ap}
+-- The rules on p and n: what an accepted pair has, and how these rules lead a longer list.
+use mathlib.Core.Path.{_≡_, refl, ap, ap₂, sym}
 use mathlib.Core.Bool.{Bool, true, false, not, _||_}
-use mathlib.Core.List.{List, _∷_}
-use Prim.Native.Nat.{ℕ, _^_, _≤_, _<_}
+use mathlib.Core.List.{List, [], _∷_, _++_}
+use Prim.Native.Nat.{ℕ, _^_, _<_}
 use native.Mathlib.Omega.{arith}
 use borrow.Author.Tests.{ltb-false, eqb-false, not-false}
 use lib.Dec.{eqb, ltb}
 use Rattle.theory.specs.Prime.{isPrime}
 use Rattle.theory.proofs.Tests.{or-fails-left, or-fails-right}
-use Rattle.theory.proofs.Numbers.Prime.{Prime, prime-of}
+use Rattle.theory.proofs.Numbers.Prime.{prime-of}
 use Rattle.refusal.specs.declared.Refusal.{Refusal}
 use Rattle.refusal.specs.declared.Refusal.the-variants.{NotPrime, Precision}
 use Rattle.refusal.specs.Rules.{Verdict, passes, refuses, tried}
+use Rattle.refusal.proofs.Rules.{tried-leads, tried-refuses, tried-first, rule-passes}
 use Rattle.numbers.specs.declared.Modulus.the-variants.{Accepted, Refused}
-use Rattle.numbers.specs.Modulus.{rule4, rule5, modulusOf}
+use Rattle.numbers.specs.Modulus.{rule4, rule5, modulusRules, powerOr, modulusOf, Usable}
 
--- p and n that the rules pass
-pub record Usable (p n m : ℕ) : Type 0 where
-  pub passes4 : rule4 p ≡ passes
-  pub passes5 : rule5 p n ≡ passes
-  pub prime : Prime p
-  pub small : p ≤ 65535
-  pub precise : 0 < n
-  pub power : m ≡ p ^ n
-  pub within : p ^ n ≤ 4294967295
+-- The tests of the rules
 
--- Rule 4
+abbrev pub notPrime : ℕ → Bool
+notPrime p = ltb p 2 || ltb 65535 p || not (isPrime p)
 
-pub not-prime : (p : ℕ) → (ltb p 2 || ltb 65535 p || not (isPrime p)) ≡ true → rule4 p ≡ refuses NotPrime
-unfolding rule4
-not-prime p e = rw e
+abbrev pub notPrecise : ℕ → ℕ → Bool
+notPrecise p n = eqb n 0 || ltb 4294967295 (p ^ n)
 
-pub is-prime : (p : ℕ) → (ltb p 2 || ltb 65535 p || not (isPrime p)) ≡ false → rule4 p ≡ passes
-unfolding rule4
-is-prime p e = rw e
-
-pub not-precise : (p n : ℕ) → (eqb n 0 || ltb 4294967295 (p ^ n)) ≡ true → rule5 p n ≡ refuses Precision
-unfolding rule5
-not-precise p n e = rw e
-
-pub is-precise : (p n : ℕ) → (eqb n 0 || ltb 4294967295 (p ^ n)) ≡ false → rule5 p n ≡ passes
-unfolding rule5
-is-precise p n e = rw e
-
--- Both rules
-
-pub modulus-4 : (p n : ℕ) (r : Refusal) → rule4 p ≡ refuses r → modulusOf p n ≡ Refused r
+pub modulus-4 : (p n : ℕ) → notPrime p ≡ true → modulusOf p n ≡ Refused NotPrime
 unfolding modulusOf
-modulus-4 p n r e = rw e
+modulus-4 p n e = rw e
 
-pub modulus-5 : (p n : ℕ) (r : Refusal) → rule4 p ≡ passes → rule5 p n ≡ refuses r → modulusOf p n ≡ Refused r
+pub modulus-5 : (p n : ℕ) → notPrime p ≡ false → notPrecise p n ≡ true → modulusOf p n ≡ Refused Precision
 unfolding modulusOf
-modulus-5 p n r e f = rw (e, f)
+modulus-5 p n e f = rw (e, f)
 
-pub modulus-passes : (p n : ℕ) → rule4 p ≡ passes → rule5 p n ≡ passes → modulusOf p n ≡ Accepted (p ^ n)
+pub modulus-passes : (p n : ℕ) → notPrime p ≡ false → notPrecise p n ≡ false → modulusOf p n ≡ Accepted (p ^ n)
 unfolding modulusOf
 modulus-passes p n e f = rw (e, f)
 
--- what the answer says of the rules
-module _ (p n : ℕ) where
-  test4 : Bool
-  test4 = ltb p 2 || ltb 65535 p || not (isPrime p)
+-- What an answer says of the rules
 
-  test5 : Bool
-  test5 = eqb n 0 || ltb 4294967295 (p ^ n)
+pub accepted-means : (v : Verdict) (x m : ℕ) → powerOr v x ≡ Accepted m → (v ≡ passes) × (m ≡ x)
+accepted-means passes x m e = (refl, cc)
+accepted-means (refuses r) x m e = let z : _≡_ {A = ℕ} 0 1 = cc in absurd (omega arith)
+
+pub refused-means : (v : Verdict) (x : ℕ) (r : Refusal) → powerOr v x ≡ Refused r → v ≡ refuses r
+refused-means passes x r e = let z : _≡_ {A = ℕ} 0 1 = cc in absurd (omega arith)
+refused-means (refuses s) x r e = ap refuses (cc)
+
+module _ (p n : ℕ) where
+  -- p and n that the rules pass are usable
+  pub passes-usable : tried (modulusRules p n) ≡ passes → (m : ℕ) → m ≡ p ^ n → Usable p n m
+  unfolding modulusRules
+  passes-usable e m q =
+      let parts = tried-first (rule4 p) (rule5 p n ∷ []) e in
+      let four = rule-passes (notPrime p) NotPrime (parts .0) in
+      let five = rule-passes (notPrecise p n) Precision (tried-first (rule5 p n) [] (parts .1) .0) in
+      let range : (ltb p 2 || ltb 65535 p) ≡ false = or-fails-left (ltb p 2 || ltb 65535 p) (not (isPrime p)) four in
+      record {
+        accepted = e;
+        prime = prime-of p (not-false (isPrime p) (or-fails-right (ltb p 2 || ltb 65535 p) (not (isPrime p)) four));
+        small = ltb-false 65535 p (or-fails-right (ltb p 2) (ltb 65535 p) range);
+        precise = positive (eqb-false n 0 (or-fails-left (eqb n 0) (ltb 4294967295 (p ^ n)) five));
+        power = q;
+        within = ltb-false 4294967295 (p ^ n) (or-fails-right (eqb n 0) (ltb 4294967295 (p ^ n)) five);
+      }
+    where
+      positive : (n ≡ 0 → ⊥) → 0 < n
+      positive h = omega arith
 
   pub usable : (m : ℕ) → modulusOf p n ≡ Accepted m → Usable p n m
-  unfolding test4 test5
-  usable m e = go test4 test5 refl refl
-    where
-      go : (a b : Bool) → test4 ≡ a → test5 ≡ b → Usable p n m
-      go true b f g = let z : _≡_ {A = ℕ} 0 1 = cc (modulus-4 p n NotPrime (not-prime p f)) in absurd (omega arith)
-      go false true f g =
-          let z : _≡_ {A = ℕ} 0 1 = cc (modulus-5 p n Precision (is-prime p f) (not-precise p n g)) in
-          absurd (omega arith)
-      go false false f g =
-          let range : (ltb p 2 || ltb 65535 p) ≡ false = or-fails-left (ltb p 2 || ltb 65535 p) (not (isPrime p)) f in
-          let high : ltb 65535 p ≡ false = or-fails-right (ltb p 2) (ltb 65535 p) range in
-          let some : eqb n 0 ≡ false = or-fails-left (eqb n 0) (ltb 4294967295 (p ^ n)) g in
-          record {
-            passes4 = is-prime p f;
-            passes5 = is-precise p n g;
-            prime = prime-of p (not-false (isPrime p) (or-fails-right (ltb p 2 || ltb 65535 p) (not (isPrime p)) f));
-            small = ltb-false 65535 p high;
-            precise = positive (eqb-false n 0 some);
-            power = cc (modulus-passes p n (is-prime p f) (is-precise p n g));
-            within = ltb-false 4294967295 (p ^ n) (or-fails-right (eqb n 0) (ltb 4294967295 (p ^ n)) g);
-          }
-        where
-          positive : (n ≡ 0 → ⊥) → 0 < n
-          positive h = omega arith
+  unfolding modulusOf
+  usable m e = let both = accepted-means (tried (modulusRules p n)) (p ^ n) m e in passes-usable (both .0) m (both .1)
 
-  pub refused-leads : (r : Refusal) → modulusOf p n ≡ Refused r → (rest : List Verdict) → tried (rule4 p ∷ rule5 p n ∷ rest) ≡ refuses r
-  unfolding test4 test5
-  refused-leads r e rest = go test4 test5 refl refl
-    where
-      go : (a b : Bool) → test4 ≡ a → test5 ≡ b → tried (rule4 p ∷ rule5 p n ∷ rest) ≡ refuses r
-      go true b f g = rw (not-prime p f) (ap refuses (cc (modulus-4 p n NotPrime (not-prime p f))))
-      go false true f g =
-          rw (is-prime p f, not-precise p n g) (ap refuses (cc (modulus-5 p n Precision (is-prime p f) (not-precise p n g))))
-      go false false f g =
-          let z : _≡_ {A = ℕ} 0 1 = cc (modulus-passes p n (is-prime p f) (is-precise p n g)) in
-          absurd (omega arith)
+  pub modulus-refuses : (r : Refusal) → modulusOf p n ≡ Refused r → tried (modulusRules p n) ≡ refuses r
+  unfolding modulusOf
+  modulus-refuses r e = refused-means (tried (modulusRules p n)) (p ^ n) r e
 
--- and how p and n that pass let the others speak
-pub usable-leads : (p n m : ℕ) → Usable p n m → (rest : List Verdict) → tried (rule4 p ∷ rule5 p n ∷ rest) ≡ tried rest
-usable-leads p n m U rest = rw (U .passes4, U .passes5)
+  -- a refusal is that of any longer list
+  pub refused-leads : (r : Refusal) → modulusOf p n ≡ Refused r → (rest : List Verdict) → tried (modulusRules p n ++ rest) ≡ refuses r
+  refused-leads r e rest = tried-refuses (modulusRules p n) rest r (modulus-refuses r e)
+
+-- where p and n pass, the rules after these decide
+pub usable-leads : {p n m : ℕ} → Usable p n m → (rest : List Verdict) → tried (modulusRules p n ++ rest) ≡ tried rest
+usable-leads {p} {n} U rest = tried-leads (modulusRules p n) rest (U .accepted)
+
+-- and what these leave
+pub usable-leaves : {p n m : ℕ} → Usable p n m → (rest : List Verdict)
+    → powerOr (tried (modulusRules p n ++ rest)) (p ^ n) ≡ powerOr (tried rest) m
+usable-leaves U rest = ap₂ powerOr (usable-leads U rest) (sym (U .power))

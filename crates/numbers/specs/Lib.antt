@@ -1,2 +1,3 @@
 -- p, n and pⁿ.
+pub mod Saturated
 pub mod Modulus

@@ -1,19 +1,14 @@
 -- The rules on p and n (01, "When the solver declines").
-use mathlib.Core.Bool.{true, false, not, _||_}
-use mathlib.Core.List.{[], _∷_}
-use Prim.Native.Nat.{ℕ, _^_}
+use mathlib.Core.Path.{_≡_}
+use mathlib.Core.Bool.{not, _||_}
+use mathlib.Core.List.{List, [], _∷_}
+use Prim.Native.Nat.{ℕ, _^_, _≤_, _<_}
 use lib.Dec.{eqb, ltb}
-use Rattle.theory.specs.Prime.{isPrime}
+use Rattle.theory.specs.Prime.{Prime, isPrime}
 use Rattle.refusal.specs.declared.Refusal.the-variants.{NotPrime, Precision}
 use Rattle.refusal.specs.Rules.{Verdict, passes, refuses, rule, tried}
-use Rattle.numbers.specs.declared.Power.{Power}
-use Rattle.numbers.specs.declared.Power.the-variants.{Within, Over}
 use Rattle.numbers.specs.declared.Modulus.{Modulus}
 use Rattle.numbers.specs.declared.Modulus.the-variants.{Accepted, Refused}
-
--- pⁿ, or that it is over 4,294,967,295
-unfoldable pub powerOf : ℕ → ℕ → Power
-powerOf p n = elim (ltb 4294967295 (p ^ n)) [ true ↦ Over | false ↦ Within (p ^ n) ]
 
 -- "4. p is below 2, above 65,535 or not prime."
 unfoldable pub rule4 : ℕ → Verdict
@@ -23,11 +18,25 @@ rule4 p = rule (ltb p 2 || ltb 65535 p || not (isPrime p)) NotPrime
 unfoldable pub rule5 : ℕ → ℕ → Verdict
 rule5 p n = rule (eqb n 0 || ltb 4294967295 (p ^ n)) Precision
 
+-- these rules in their order, as every operation on p and n tries them
+unfoldable pub modulusRules : ℕ → ℕ → List Verdict
+unfolding rule4 rule5
+modulusRules p n = rule4 p ∷ rule5 p n ∷ []
+
 -- pⁿ, or the refusal
 abbrev pub powerOr : Verdict → ℕ → Modulus
 powerOr passes m = Accepted m
 powerOr (refuses r) m = Refused r
 
 unfoldable pub modulusOf : ℕ → ℕ → Modulus
-unfolding rule4 rule5
-modulusOf p n = powerOr (tried (rule4 p ∷ rule5 p n ∷ [])) (p ^ n)
+unfolding modulusRules
+modulusOf p n = powerOr (tried (modulusRules p n)) (p ^ n)
+
+-- p and n that these rules pass, with m for pⁿ
+pub record Usable (p n m : ℕ) : Type 0 where
+  pub accepted : tried (modulusRules p n) ≡ passes
+  pub prime : Prime p
+  pub small : p ≤ 65535
+  pub precise : 0 < n
+  pub power : m ≡ p ^ n
+  pub within : p ^ n ≤ 4294967295

@@ -1,8 +1,18 @@
-// Total functions on machine integers that several crates need: the least divisor, a power with its limit, the test of p and n.
+// Total functions on machine integers that several crates need: the least divisor, powers and sums of powers, the test of p and n.
 ghost use mathlib.Core.Path.{_≡_};
+ghost use Prim.Native.Nat.{_-_, _^_, min};
 ghost use Rattle.theory.specs.Prime.{leastDivisor};
-ghost use Rattle.numbers.specs.Modulus.{powerOf, modulusOf};
+ghost use Rattle.theory.specs.ClassList.{memberTotal};
+ghost use Rattle.numbers.specs.Saturated.{saturated};
+ghost use Rattle.numbers.specs.Modulus.{modulusOf};
 use refusal::Refusal;
+
+// The smaller of two.
+pub fn smaller(a: usize, b: usize) -> usize
+    ensures { λ r. ⌜ r ≡ min a b ⌝ }
+{
+    if a < b { a } else { b }
+}
 
 // The least divisor above 1, by trial division up to the square root.
 pub fn least_divisor(p: u32) -> u32
@@ -22,32 +32,51 @@ pub fn least_divisor(p: u32) -> u32
     p
 }
 
-pub enum Power {
-    Within(u64),
-    Over,
-}
-
-// pⁿ where it is at most 4,294,967,295. It ends after at most 32 products, whatever n is.
-pub fn power_within(p: u32, n: u32) -> Power
-    ensures { λ r. ⌜ r ≡ powerOf p n ⌝ }
+// pⁿ, and 2^32 where it is more. It ends after at most 32 products, whatever n is.
+pub fn power(p: u32, n: u32) -> u64
+    ensures { λ r. ⌜ r ≡ saturated (p ^ n) ⌝ }
 {
     let base = p as u64;
     if base < 2 {
         if n == 0 {
-            return Power::Within(1);
+            return 1;
         }
-        return Power::Within(base);
+        return base;
     }
     let mut m: u64 = 1;
     let mut i: u32 = 0;
     while i < n {
         m = m * base;
         if 4294967295 < m {
-            return Power::Over;
+            return 4294967296;
         }
         i += 1;
     }
-    Power::Within(m)
+    m
+}
+
+// The number of members of a class of level t modulo pⁿ, and 2^32 where it is more.
+pub fn member_count(p: u32, n: u32, t: u8) -> u64
+    ensures { λ r. ⌜ r ≡ saturated (p ^ (n - t)) ⌝ }
+{
+    let level = t as u32;
+    if n < level {
+        return 1;
+    }
+    power(p, n - level)
+}
+
+// The sum of the member numbers of classes of these levels modulo pⁿ, and 2^32 where it is more.
+pub fn member_total(p: u32, n: u32, levels: &[u8]) -> u64
+    ensures { λ r. ⌜ r ≡ saturated (memberTotal p n (now (levels .entry))) ⌝ }
+{
+    let mut sum: usize = 0;
+    let mut i: usize = 0;
+    while i < levels.len() {
+        sum = smaller(sum + member_count(p, n, levels[i]) as usize, 4294967296);
+        i += 1;
+    }
+    sum as u64
 }
 
 // What the rules on p and n say: pⁿ, or the refusal.
@@ -69,11 +98,9 @@ pub fn check_modulus(p: u32, n: u32) -> Modulus
     if least_divisor(p) != p {
         return Modulus::Refused(Refusal::NotPrime);
     }
-    if n == 0 {
+    let modulus = power(p, n);
+    if n == 0 || 4294967295 < modulus {
         return Modulus::Refused(Refusal::Precision);
     }
-    match power_within(p, n) {
-        Power::Within(m) => Modulus::Accepted(m),
-        Power::Over => Modulus::Refused(Refusal::Precision),
-    }
+    Modulus::Accepted(modulus)
 }

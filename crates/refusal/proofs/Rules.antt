@@ -1,15 +1,18 @@
 -- Each rule's verdict, from the fact that the rule tests.
 use mathlib.Core.Path.{_≡_, refl}
 use mathlib.Core.Bool.{Bool, true, false}
-use mathlib.Core.List.{List, _∷_}
+use mathlib.Core.List.{List, [], _∷_, _++_, append-nil}
 use Prim.Native.Nat.{ℕ, _+_, _*_, min, _≤_, _<_}
+use native.Mathlib.Nat.{le-of-eq}
 use native.Mathlib.Omega.{arith}
+use lib.ListN.{length, drop-of-length-le}
 use borrow.Author.Tests.{eq-eqb, ne-eqb, lt-ltb, le-ltb, le-leb, lt-leb, eqb-true}
 use lib.Dec.{eqb}
+use Rattle.refusal.specs.declared.Refusal.{Refusal}
 use Rattle.refusal.specs.declared.Refusal.the-variants.{NoCoefficient, TooManyCoefficients, Lengths, Point, MapTooLarge, MapLength}
 use Rattle.refusal.specs.declared.Refusal.the-variants.{TooFewSlots, BufferTooSmall}
 use Rattle.refusal.specs.Rules.{Verdict, passes, refuses, tried, rule2, rule3, rule6, rule6Three, rule8, rule9, rule10, rule11}
-use Rattle.refusal.specs.Rules.{rule12}
+use Rattle.refusal.specs.Rules.{rule12, rule, filled}
 
 pub rule2-refuses : (count : ℕ) → count ≡ 0 → rule2 count ≡ refuses NoCoefficient
 rule2-refuses count e = rw (eq-eqb count 0 e)
@@ -71,12 +74,40 @@ rule12-refuses bytes k h = rw (lt-ltb bytes (45 * (k + 1)) h)
 pub rule12-passes : (bytes k : ℕ) → 45 * (k + 1) ≤ bytes → rule12 bytes k ≡ passes
 rule12-passes bytes k h = rw (le-ltb bytes (45 * (k + 1)) h)
 
+-- Lists of rules
+
+-- rules that pass leave the verdict to those after them
+pub tried-leads : (rules rest : List Verdict) → tried rules ≡ passes → tried (rules ++ rest) ≡ tried rest
+tried-leads [] rest e = refl
+tried-leads (passes ∷ rules) rest e = tried-leads rules rest e
+tried-leads (refuses r ∷ rules) rest e = let z : _≡_ {A = ℕ} 0 1 = cc e in absurd (omega arith)
+
+-- a refusal is that of any longer list
+pub tried-refuses : (rules rest : List Verdict) (r : Refusal) → tried rules ≡ refuses r → tried (rules ++ rest) ≡ refuses r
+tried-refuses [] rest r e = let z : _≡_ {A = ℕ} 0 1 = cc e in absurd (omega arith)
+tried-refuses (passes ∷ rules) rest r e = tried-refuses rules rest r e
+tried-refuses (refuses s ∷ rules) rest r e = e
+
+-- rules that all pass pass part by part
+pub tried-both : (rules rest : List Verdict) → tried (rules ++ rest) ≡ passes → (tried rules ≡ passes) × (tried rest ≡ passes)
+tried-both [] rest e = (refl, e)
+tried-both (passes ∷ rules) rest e = tried-both rules rest e
+tried-both (refuses r ∷ rules) rest e = let z : _≡_ {A = ℕ} 0 1 = cc e in absurd (omega arith)
+
+pub tried-first : (v : Verdict) (rest : List Verdict) → tried (v ∷ rest) ≡ passes → (v ≡ passes) × (tried rest ≡ passes)
+tried-first passes rest e = (refl, e)
+tried-first (refuses r) rest e = let z : _≡_ {A = ℕ} 0 1 = cc e in absurd (omega arith)
+
+-- a rule that passes does not apply
+pub rule-passes : (b : Bool) (r : Refusal) → rule b r ≡ passes → b ≡ false
+rule-passes true r e = let z : _≡_ {A = ℕ} 0 1 = cc in absurd (omega arith)
+rule-passes false r e = refl
+
 -- the number of coefficients passes both rules on it
 pub coefficients-lead : (count : ℕ) → (count ≡ 0 → ⊥) → count ≤ 65 → (rest : List Verdict) → tried (rule2 count ∷ rule3 count ∷ rest) ≡
     tried rest
 coefficients-lead count ne h rest = rw (rule2-passes count ne, rule3-passes count h)
 
--- rules that all pass pass one by one
-pub tried-first : (v : Verdict) (rest : List Verdict) → tried (v ∷ rest) ≡ passes → (v ≡ passes) × (tried rest ≡ passes)
-tried-first passes rest e = (refl, e)
-tried-first (refuses r) rest e = let z : _≡_ {A = ℕ} 0 1 = cc e in absurd (omega arith)
+-- memory that is written whole
+pub filled-whole : {A : Type 0} (new old : List A) → length old ≡ length new → filled passes new old ≡ new
+filled-whole new old e = rw (drop-of-length-le old {i = length new} (le-of-eq e)) (append-nil new)

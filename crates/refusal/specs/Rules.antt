@@ -25,7 +25,7 @@ tried (passes ∷ rules) = tried rules
 tried (refuses r ∷ rules) = refuses r
 
 -- lent memory after a call: its front is written and the rest keeps its content, and a refusal "alters no lent memory"
-abbrev pub filled : Verdict → List ℕ → List ℕ → List ℕ
+abbrev pub filled : {A : Type 0} → Verdict → List A → List A → List A
 filled passes new old = new ++ drop (length new) old
 filled (refuses r) new old = old
 

@@ -23,7 +23,7 @@ pub enum Refusal {
     MapTooLarge,
     // 10: the map's length is not pⁿ / 8 rounded up
     MapLength,
-    // 11: the lists have fewer slots than this number of classes
+    // 11: the lent lists have fewer slots than this number
     TooFewSlots(usize),
     // 12: the buffer has fewer bytes than this number
     BufferTooSmall(usize),

@@ -3,7 +3,7 @@ use mathlib.Core.Path.{_≡_, sym, ap, _∙_}
 use mathlib.Core.Bool.{Bool, false, _||_}
 use mathlib.Core.List.{List}
 use Prim.Native.Nat.{ℕ}
-use Rattle.rootmap.specs.Bits.{isSet, Added}
+use Rattle.rootmap.specs.inner.Bits.{isSet, Added}
 use Rattle.theory.proofs.Tests.{or-none, or-assoc}
 
 -- no bit is added

@@ -9,9 +9,9 @@ use borrow.Author.Tests.{eqb-true, eqb-false}
 use lib.Dec.{ltb}
 use lib.ListN.{length, getD}
 use lib.Seq.{ext-getD}
-use Rattle.theory.specs.RootMap.{bit, bitOf, bitsFrom, bytesFrom}
+use Rattle.theory.specs.RootMap.{bit, bitOf, bitsFrom, bytesFrom, mapLength}
 use Rattle.theory.proofs.RootMap.{byte-at, bytes-length}
-use Rattle.rootmap.specs.Bits.{isSet, mapOf, Added}
+use Rattle.rootmap.specs.inner.Bits.{isSet, mapOf, Added}
 use Rattle.rootmap.proofs.Ones.{bit-small}
 
 -- a number below 2^k is made of its k bits
@@ -60,7 +60,7 @@ bit-is S m l r e = go (ltb r m && S r) refl
         zero-bit h = omega (arith, bit-small l r)
 
 -- bytes whose ones are those of S below m
-pub map-of-set : (S : ℕ → Bool) (m : ℕ) (l : List ℕ) → length l ≡ (m + 7) / 8 → ((i : ℕ) → getD l i 0 < 256)
+pub map-of-set : (S : ℕ → Bool) (m : ℕ) (l : List ℕ) → length l ≡ mapLength m → ((i : ℕ) → getD l i 0 < 256)
     → ((r : ℕ) → isSet l r ≡ (ltb r m && S r)) → l ≡ mapOf S m
 unfolding mapOf
 map-of-set S m l n small same =
@@ -72,7 +72,7 @@ unfolding isSet bit
 cleared l z r = rw (z (r / 8), zero-div (2 ^ (r % 8)))
 
 -- what is added to a cleared map is all that it shows
-pub added-to-cleared : (S : ℕ → Bool) (m : ℕ) (old new : List ℕ) → length new ≡ (m + 7) / 8 → ((i : ℕ) → getD old i 0 ≡ 0)
+pub added-to-cleared : (S : ℕ → Bool) (m : ℕ) (old new : List ℕ) → length new ≡ mapLength m → ((i : ℕ) → getD old i 0 ≡ 0)
     → Added (λ r. ltb r m && S r) old new → new ≡ mapOf S m
 added-to-cleared S m old new n z a =
     map-of-set S m new n (a .bytes (λ i. rw (z i) (omega arith)))

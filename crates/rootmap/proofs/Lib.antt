@@ -6,8 +6,7 @@ mod Steps
 mod Ones
 mod Listed
 mod Bytes
-mod Verdicts
+pub mod Verdicts
 mod Answers
 pub mod Rivals
 pub mod Examples
-pub mod SolverList

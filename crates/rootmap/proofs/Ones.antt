@@ -11,7 +11,7 @@ use lib.ListN.{length, getD, length-append}
 use Rattle.theory.specs.Range.{passing}
 use Rattle.theory.specs.RootMap.{bit}
 use Rattle.theory.proofs.Passing.{passing-next-on, passing-next-off, passing-most}
-use Rattle.rootmap.specs.Bits.{isSet, onesBelow}
+use Rattle.rootmap.specs.inner.Bits.{isSet, onesBelow}
 
 -- a bit is 0 or 1
 pub bit-small : (map : List ℕ) (r : ℕ) → bit map r < 2

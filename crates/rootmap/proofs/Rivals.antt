@@ -1,78 +1,42 @@
 -- The map of a list that is a rival of a set S: its bits are S, and its count is the set's, whatever the spare bits.
 use mathlib.Core.Path.{_≡_, refl, sym, ap, _∙_}
 use mathlib.Core.Bool.{Bool}
-use mathlib.Core.List.{List, [], _∷_}
+use mathlib.Core.List.{List}
 use Prim.Native.Nat.{ℕ, _*_, _^_, _≤_, _<_}
 use native.Mathlib.Omega.{arith}
 use lib.Dec.{eqb}
 use lib.ListN.{length}
-use Rattle.theory.specs.Class.{Class}
-use Rattle.theory.specs.ClassList.{members}
 use Rattle.theory.specs.Shortest.{count}
 use Rattle.theory.specs.Rival.{Rival}
-use Rattle.theory.specs.RootMap.{bit, bitOf, mapLength, rootMap, ones}
-use Rattle.theory.proofs.RootMap.{bytes-length, map-spare, ones-agree, rival-bit, rival-ones}
-use Rattle.refusal.specs.Rules.{Verdict, passes, refuses, tried, rule6, rule9, rule10}
-use Rattle.numbers.specs.Modulus.{rule4, rule5}
-use Rattle.classes.specs.Rule7.{classesOf, rule7}
-use Rattle.rootmap.specs.declared.Mapped.the-variants.{Filled}
+use Rattle.theory.specs.RootMap.{bit, mapLength, rootMap, ones}
+use Rattle.theory.proofs.RootMap.{map-spare, ones-agree, rival-bit, rival-ones}
+use Rattle.refusal.specs.Rules.{Verdict}
+use Rattle.numbers.proofs.Rules.{usable-leads}
+use Rattle.classes.specs.Rule7.{classesOf}
+use Rattle.classes.specs.inner.Usable.{UsableList}
 use Rattle.rootmap.specs.declared.Counted.the-variants.{Ones}
-use Rattle.rootmap.specs.Map.{mapVerdict, mappedOf, filledOr, mapFilled, contentOr, countVerdict, countedOf, onesOr}
-use Rattle.rootmap.proofs.Verdicts.{size-means}
+use Rattle.rootmap.specs.Map.{sizeRules, mapFilled, countVerdict, countedOf, onesOr}
+use Rattle.rootmap.proofs.Verdicts.{size-fits, usable-passes}
+use Rattle.rootmap.proofs.Answers.{map-length, passes-map}
 
-map-length : (p n : ℕ) (l : List Class) → length (rootMap p n l) ≡ mapLength p n
-unfolding rootMap
-map-length p n l = bytes-length (bitOf (members p l) (p ^ n)) (mapLength p n) 0
-
--- Accepted calls
-
-filled-passes : (v : Verdict) → filledOr v ≡ Filled → v ≡ passes
-filled-passes passes e = refl
-filled-passes (refuses r) e = let z : _≡_ {A = ℕ} 0 1 = cc in absurd (omega arith)
-
--- where the map's rules pass, so do the count's, which are some of them
-fewer-pass : (a b c d : Verdict) (rest : List Verdict) → tried (a ∷ b ∷ c ∷ d ∷ rest) ≡ passes
-    → (tried (a ∷ b ∷ rest) ≡ passes) × (tried rest ≡ passes)
-fewer-pass passes passes passes passes rest e = (e, e)
-fewer-pass passes passes passes (refuses r) rest e = let z : _≡_ {A = ℕ} 0 1 = cc in absurd (omega arith)
-fewer-pass passes passes (refuses r) d rest e = let z : _≡_ {A = ℕ} 0 1 = cc in absurd (omega arith)
-fewer-pass passes (refuses r) c d rest e = let z : _≡_ {A = ℕ} 0 1 = cc in absurd (omega arith)
-fewer-pass (refuses r) b c d rest e = let z : _≡_ {A = ℕ} 0 1 = cc in absurd (omega arith)
-
-module _ (p n : ℕ) (residues levels old : List ℕ) (accepted : mappedOf p n residues levels (length old) ≡ Filled) where
-  verdict : mapVerdict p n residues levels (length old) ≡ passes
-  unfolding mappedOf
-  verdict = filled-passes (mapVerdict p n residues levels (length old)) accepted
-
-  -- an accepted call leaves the map of the list, whatever the map held
+-- a list that the rules accept, pⁿ up to 524,288 and a map of the right length
+module _ (p n : ℕ) (residues levels old : List ℕ) {m : ℕ} (C : UsableList p n residues levels m) (small : p ^ n ≤ 524288)
+    (long : length old ≡ mapLength (p ^ n)) where
+  -- the call leaves the map of the list, whatever the map held
   pub accepted-map : mapFilled p n residues levels old ≡ rootMap p n (classesOf residues levels)
-  unfolding mapFilled
-  accepted-map = ap (λ (v : Verdict). contentOr v (rootMap p n (classesOf residues levels)) old) verdict
-
-  rules : (countVerdict p n (length old) ≡ passes) × (tried (rule9 (p ^ n) ∷ rule10 (length old) (mapLength p n) ∷ []) ≡ passes)
-  unfolding mapVerdict countVerdict
-  rules =
-      fewer-pass (rule4 p) (rule5 p n) (rule6 (length residues) (length levels)) (rule7 p n (classesOf residues levels))
-      (rule9 (p ^ n) ∷ rule10 (length old) (mapLength p n) ∷ []) verdict
-
-  -- the map has the length that rule 10 wants
-  pub accepted-length : length old ≡ mapLength p n
-  unfolding mapLength
-  accepted-length = size-means (p ^ n) (length old) (rules .1) .long
+  accepted-map = passes-map p n residues levels old (usable-passes p n residues levels (length old) C small long) long
 
   -- "spare high bits of the last byte are zero"
   pub accepted-spare : (r : ℕ) → p ^ n ≤ r → r < 8 * length old → bit (mapFilled p n residues levels old) r ≡ 0
   accepted-spare r h b =
-      ap (λ (l : List ℕ). bit l r) accepted-map
-      ∙ map-spare p n (classesOf residues levels) r h (omega (arith, accepted-length))
+      ap (λ (l : List ℕ). bit l r) accepted-map ∙ map-spare p n (classesOf residues levels) r h (omega (arith, long))
 
   -- a map of that length is counted
   pub accepted-count : (map : List ℕ) → length map ≡ length old → countedOf p n map ≡ Ones (ones p n map)
-  unfolding countedOf
+  unfolding countedOf countVerdict
   accepted-count map same =
-      ap (λ (v : Verdict). onesOr v (ones p n map)) (ap (countVerdict p n) same ∙ rules .0)
-
-  -- Rivals
+      ap (λ (v : Verdict). onesOr v (ones p n map))
+      (usable-leads (C .modulus) (sizeRules (p ^ n) (length map)) ∙ size-fits (p ^ n) (length map) small (same ∙ long))
 
   module _ (S : ℕ → Bool) (rival : Rival S p n (classesOf residues levels)) where
     -- bit r of the map is 1 exactly if r is in S
@@ -91,7 +55,6 @@ module _ (p n : ℕ) (residues levels old : List ℕ) (accepted : mappedOf p n r
 
     -- in particular that of the map itself
     pub rival-own-count : countedOf p n (mapFilled p n residues levels old) ≡ Ones (count S p n)
-    rival-own-count = rival-map-count (mapFilled p n residues levels old) kept-length (λ r h. refl)
-      where
-        kept-length : length (mapFilled p n residues levels old) ≡ length old
-        kept-length = ap length accepted-map ∙ map-length p n (classesOf residues levels) ∙ sym accepted-length
+    rival-own-count =
+        rival-map-count (mapFilled p n residues levels old)
+        (ap length accepted-map ∙ map-length p n (classesOf residues levels) ∙ sym long) (λ r h. refl)

@@ -12,7 +12,7 @@ use lib.ListN.{length, getD, set}
 use lib.Seq.{getD-set-same, getD-set-other}
 use Rattle.theory.specs.RootMap.{bit}
 use Rattle.theory.proofs.Tests.{or-right}
-use Rattle.rootmap.specs.Bits.{isSet, Added}
+use Rattle.rootmap.specs.inner.Bits.{isSet, Added}
 use Rattle.theory.proofs.Tests.{or-none}
 use Rattle.rootmap.proofs.Or.{or-same, or-other, or-byte}
 

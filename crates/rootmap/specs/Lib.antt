@@ -1,3 +1,3 @@
--- What the map and its count answer, and what their inner functions say.
+-- What the map and its count answer.
 pub mod Map
-pub mod Bits
+pub mod inner

@@ -4,7 +4,7 @@ ghost use Prim.Native.Nat.{_*_, _<_};
 ghost use lib.Dec.{eqb};
 ghost use lib.ListN.{length};
 ghost use Rattle.theory.specs.RootMap.{bit};
-ghost use Rattle.rootmap.specs.Bits.{Added};
+ghost use Rattle.rootmap.specs.inner.Bits.{Added};
 
 // Sets the bit of residue r.
 pub(crate) fn set_bit(map: &mut [u8], r: usize)

@@ -6,11 +6,10 @@ ghost use lib.Dec.{eqb, ltb};
 ghost use lib.ListN.{length, getD};
 ghost use Rattle.theory.specs.Class.{class, isMember};
 ghost use Rattle.theory.specs.ClassList.{members};
-ghost use Rattle.rootmap.specs.Bits.{Added};
-ghost use Rattle.rootmap.specs.Map.{Given};
+ghost use Rattle.rootmap.specs.inner.Bits.{Added};
 ghost use Rattle.classes.specs.Rule7.{classesOf};
+ghost use Rattle.classes.specs.inner.Usable.{UsableList};
 use crate::bits;
-use numbers::Power;
 
 // Makes every byte zero.
 pub(crate) fn clear(map: &mut [u8])
@@ -40,15 +39,13 @@ fn set_class(p: u32, a: u32, t: u8, m: usize, map: &mut [u8])
     requires { ⌜ (a < p ^ t) × (p ^ t ≤ 4294967295) × (m ≤ 524288) × (m ≤ 8 * length (now map)) ⌝ }
     ensures { λ _. ⌜ Added (λ r. ltb r m && isMember p (class a t) r) (now (map .entry)) (now (map .exit)) ⌝ }
 {
-    let Power::Within(q) = numbers::power_within(p, t as u32) else {
-        return;
-    };
+    let q = numbers::power(p, t as u32);
     set_members(a as usize, q as usize, m, map);
 }
 
 // Sets the bits of the members below m of all classes.
-pub(crate) fn set_classes(p: u32, residues: &[u32], levels: &[u8], m: usize, map: &mut [u8])
-    requires { ⌜ Given p (now residues) (now levels) × (m ≤ 524288) × (m ≤ 8 * length (now map)) ⌝ }
+pub(crate) fn set_classes(p: u32, n: u32, residues: &[u32], levels: &[u8], m: usize, map: &mut [u8])
+    requires { ⌜ UsableList p n (now residues) (now levels) m × (m ≤ 524288) × (m ≤ 8 * length (now map)) ⌝ }
     ensures { λ _. ⌜ Added (λ r. ltb r m && members p (classesOf (now (residues .entry)) (now (levels .entry))) r)
         (now (map .entry)) (now (map .exit)) ⌝ }
 {

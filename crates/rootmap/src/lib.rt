@@ -2,8 +2,9 @@
 ghost use mathlib.Core.Path.{_≡_};
 ghost use Prim.Native.Nat.{_*_, _≤_};
 ghost use lib.ListN.{length};
-ghost use Rattle.rootmap.specs.Bits.{onesBelow};
-ghost use Rattle.rootmap.specs.Map.{sizedOf, mappedOf, mapFilled, countedOf};
+ghost use Rattle.rootmap.specs.inner.Bits.{onesBelow};
+ghost use Rattle.rootmap.specs.Map.{mappedOf, mapFilled, countedOf};
+ghost use Rattle.rootmap.specs.inner.Size.{sizedOf};
 use numbers::Modulus;
 use refusal::Refusal;
 
@@ -30,7 +31,7 @@ pub fn fill_map(p: u32, n: u32, residues: &[u32], levels: &[u8], map: &mut [u8])
     match check_size(classes::check_list(p, n, residues, levels), map.len()) {
         Modulus::Accepted(m) => {
             fill::clear(map);
-            fill::set_classes(p, residues, levels, m as usize, map);
+            fill::set_classes(p, n, residues, levels, m as usize, map);
             Mapped::Filled
         }
         Modulus::Refused(r) => Mapped::Refused(r),

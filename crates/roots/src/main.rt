@@ -1,4 +1,4 @@
-// The program: a problem text on standard input, its answer on standard output.
+// The program: a problem text on standard input, its root classes or its refusal on standard output.
 use libc::STDIN_FILENO;
 use libc::STDOUT_FILENO;
 
@@ -7,6 +7,6 @@ fn main() {
     let mut text = io::buffer();
     let n = io::read_full(STDIN_FILENO, &mut text);
     let mut out = [0u8; 2925];
-    let bytes = answer::reply(&text[..n], &mut out);
+    let bytes = program::print_whole(&text[..n], &mut out);
     io::write_all(STDOUT_FILENO, &out[..bytes]);
 }

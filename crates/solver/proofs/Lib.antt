@@ -1,19 +1,21 @@
 -- Laws of the solver's inner definitions.
 mod Tables
 mod Lowest
-mod Codes
 mod Marks
 mod Sorting
 mod Sorted
-mod Listing
 mod Shift
 mod Zeros
 mod Linear
-mod Rows
-mod Room
+mod FiniteDifferences
+mod Codes
+mod Added
+mod Node
+mod Most
 mod Settling
-mod Scanning
 mod Child
-mod Digit
-mod Verdicts
+mod Scanning
 mod Top
+mod Coefficients
+mod Verdicts
+pub mod Answered

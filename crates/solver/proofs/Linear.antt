@@ -6,51 +6,50 @@ use mathlib.Core.List.{List, [], _∷_}
 use Prim.Native.Nat.{ℕ, _+_, _-_, _*_, _%_, _≤_, _<_}
 use native.Mathlib.Nat.{dvd-zero, dvd-refl, eq-zero-or-pos, mul-one, zero-mod, mod-eq-of-lt, le-refl}
 use native.Mathlib.Omega.{arith}
-use lib.ListN.{length, getD, take}
-use lib.Seq.{getD-take}
+use lib.ListN.{length}
 use Rattle.theory.specs.Lists.{In}
-use Rattle.theory.specs.Range.{passing}
+use Rattle.theory.specs.Prime.{Prime}
 use Rattle.theory.specs.Polynomial.{value}
+use Rattle.theory.specs.inner.Polynomial.{coef, Degree}
 use Rattle.theory.proofs.Lists.Names.{in-nil, in-single}
 use Rattle.theory.proofs.Range.{passing-complete}
 use Rattle.theory.proofs.Numbers.Congruence.{Congruent, cong-refl, cong-trans, cong-of-eq, cong-add, cong-mul, cong-mod, dvd-cong}
-use Rattle.theory.proofs.Numbers.Prime.{Prime}
-use Rattle.theory.proofs.Polynomials.Quotient.{Degree}
-use Rattle.solver.specs.Table.{vanishes}
+use Rattle.solver.specs.inner.Table.{zeroDigits, vanishes}
 use Rattle.solver.proofs.Zeros.{few, vanishes-on}
 
 none : (l : List ℕ) → length l ≤ 0 → l ≡ []
 none [] h = refl
 none (x ∷ l) h = absurd (omega arith)
 
-pub constant-none : (p : ℕ) (f : List ℕ) → Prime p → Degree p f 0 → passing (vanishes p f) p 0 ≡ []
-constant-none p f P D = none (passing (vanishes p f) p 0) (few p 0 f P D p (le-refl p))
+pub constant-none : (p : ℕ) (f : List ℕ) → Prime p → Degree p f 0 → zeroDigits p f ≡ []
+constant-none p f P D = none (zeroDigits p f) (few p 0 f P D p (le-refl p))
 
-pub lead-pos : (p : ℕ) (g : List ℕ) → Degree p (take 2 g) 1 → 0 < getD g 1 0
-lead-pos p g D = go (eq-zero-or-pos (getD g 1 0))
+pub lead-pos : {p d : ℕ} {f : List ℕ} → Degree p f d → 0 < coef f d
+lead-pos {p} {d} {f} D = go (eq-zero-or-pos (coef f d))
   where
-    go : (getD g 1 0 ≡ 0) ⊎ (0 < getD g 1 0) → 0 < getD g 1 0
-    go (inl e) = absurd (D .lead (rw (getD-take 2 g 1 0 (omega arith), e) (dvd-zero p)))
+    go : (coef f d ≡ 0) ⊎ (0 < coef f d) → 0 < coef f d
+    go (inl e) = absurd (D .lead (rw e (dvd-zero p)))
     go (inr h) = h
 
-value-two : (g : List ℕ) (c : ℕ) → value (take 2 g) c ≡ getD g 0 0 + c * getD g 1 0
+value-two : (g : List ℕ) (c : ℕ) → length g ≡ 2 → value g c ≡ coef g 0 + c * coef g 1
 unfolding value
-value-two [] c = omega arith
-value-two (a ∷ []) c = omega arith
-value-two (a ∷ b ∷ g) c = omega arith
+value-two [] c n = omega arith
+value-two (a ∷ []) c n = omega arith
+value-two (a ∷ b ∷ []) c n = omega arith
+value-two (a ∷ b ∷ d ∷ g) c n = absurd (omega arith)
 
 -- with x the inverse of the leading coefficient, the negated constant times x is a zero
-pub zero-at : (p : ℕ) (g : List ℕ) (x : ℕ) → 1 < p → getD g 0 0 < p → x * getD g 1 0 % p ≡ 1
-    → vanishes p (take 2 g) ((p - getD g 0 0) * x % p) ≡ true
-zero-at p g x two small ex =
-    vanishes-on p (take 2 g) ((p - a) * x % p)
-    (ap (λ (z : ℕ). z % p) (value-two g ((p - a) * x % p)) ∙ cong-trans (cong-add (cong-refl {x = a}) times) whole .same ∙ zero-mod p)
+zero-at : (p : ℕ) (g : List ℕ) (x : ℕ) → length g ≡ 2 → 1 < p → coef g 0 < p → x * coef g 1 % p ≡ 1
+    → vanishes p g ((p - coef g 0) * x % p) ≡ true
+zero-at p g x n two small ex =
+    vanishes-on p g ((p - a) * x % p)
+    (rw (value-two g ((p - a) * x % p) n) (cong-trans (cong-add (cong-refl {x = a}) times) whole .same) ∙ zero-mod p)
   where
     a : ℕ
-    a = getD g 0 0
+    a = coef g 0
 
     b : ℕ
-    b = getD g 1 0
+    b = coef g 1
 
     times : Congruent p ((p - a) * x % p * b) (p - a)
     times =
@@ -70,7 +69,8 @@ only (x ∷ []) c h u = ap (λ (y : ℕ). y ∷ []) (sym (in-single u))
 only (x ∷ y ∷ l) c h u = absurd (omega arith)
 
 -- and there is no other
-pub zero-alone : (p : ℕ) (f : List ℕ) (c : ℕ) → Prime p → Degree p f 1 → c < p → vanishes p f c ≡ true
-    → passing (vanishes p f) p 0 ≡ c ∷ []
-zero-alone p f c P D h e =
-    only (passing (vanishes p f) p 0) c (few p 1 f P D p (le-refl p)) (passing-complete (vanishes p f) p 0 c e (omega arith) (omega arith))
+pub linear-zeros : (p : ℕ) (g : List ℕ) (x : ℕ) → length g ≡ 2 → Prime p → Degree p g 1 → coef g 0 < p → x * coef g 1 % p ≡ 1
+    → (p - coef g 0) * x % p < p → zeroDigits p g ≡ (p - coef g 0) * x % p ∷ []
+linear-zeros p g x n P D small ex low =
+    only (zeroDigits p g) ((p - coef g 0) * x % p) (few p 1 g P D p (le-refl p))
+    (passing-complete (vanishes p g) p 0 ((p - coef g 0) * x % p) (zero-at p g x n (P .two) small ex) (omega arith) (omega arith))

@@ -1,6 +1,3 @@
--- What the solver answers, and what its inner functions say.
+-- What the solver and the test of a residue answer.
 pub mod Solve
-pub mod Table
-pub mod Code
-pub mod Sort
-pub mod Recursion
+pub mod inner

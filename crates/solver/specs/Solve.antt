@@ -1,72 +1,74 @@
 -- The solver and the test of a residue (01, "Lent lists, map and text" and "When the solver declines").
 use mathlib.Core.Bool.{Bool, true, false}
-use mathlib.Core.List.{List, [], _∷_, map}
+use mathlib.Core.List.{List, [], _∷_, _++_, map}
 use Prim.Native.Nat.{ℕ, _^_}
 use lib.IntN.{ℤ}
 use lib.ListN.{length}
 use Rattle.theory.specs.Polynomial.{roots}
 use Rattle.theory.specs.Class.{Class}
+use Rattle.theory.specs.ClassList.{residuesOf, levelsOf}
 use Rattle.theory.specs.Shortest.{shortest, count}
 use Rattle.theory.specs.Mark.{mark}
-pub use Rattle.refusal.specs.Rules.{filled}
-use Rattle.refusal.specs.Rules.{Verdict, passes, refuses, tried, rule2, rule3, rule6Three, rule8, rule11}
-use Rattle.numbers.specs.Modulus.{rule4, rule5}
+use Rattle.refusal.specs.Rules.{Verdict, passes, refuses, tried, filled, rule2, rule3, rule6Three, rule8, rule11}
+use Rattle.numbers.specs.Modulus.{modulusRules}
 use Rattle.solver.specs.declared.Solved.{Solved}
 use Rattle.solver.specs.declared.Solved.the-variants.{Found, Refused}
 use Rattle.solver.specs.declared.Tested.{Tested}
 use Rattle.solver.specs.declared.Tested.the-variants as tested
 
+-- "The solver fills three lists: residues (32 bits), levels and marks (8 bits each)"
+pub record Lists : Type 0 where
+  pub residues : List ℕ
+  pub levels : List ℕ
+  pub marks : List ℕ
+
+abbrev pub lists : List ℕ → List ℕ → List ℕ → Lists
+lists residues levels marks = record { residues = residues; levels = levels; marks = marks }
+
+-- "It uses the first k slots, k being the number of classes; later slots keep their content": by the classes of L and their marks
+abbrev pub listsFilled : Verdict → List Class → List ℕ → Lists → Lists
+listsFilled v L marks given =
+    lists (filled v (residuesOf L) (given .residues)) (filled v (levelsOf L) (given .levels)) (filled v marks (given .marks))
+
+-- rules 6 and 11 on the lent lists, for k classes
+abbrev pub listRules : Lists → ℕ → List Verdict
+listRules given k =
+    rule6Three (length (given .residues)) (length (given .levels)) (length (given .marks))
+    ∷ rule11 (length (given .residues)) k
+    ∷ []
+
+-- the rules on a polynomial, p and n: 2 and 3, then those on p and n
+abbrev pub polynomialRules : List ℤ → ℕ → ℕ → List Verdict
+polynomialRules f p n = rule2 (length f) ∷ rule3 (length f) ∷ modulusRules p n
+
 -- the list of f
 unfoldable pub solution : List ℤ → ℕ → ℕ → List Class
 solution f p n = shortest (roots f p n) p n
 
--- the solver's rules, given the lengths of its three lists
-unfoldable pub solverVerdict : List ℤ → ℕ → ℕ → ℕ → ℕ → ℕ → Verdict
-solverVerdict f p n slots levels marks =
-    tried
-    (rule2 (length f)
-    ∷ rule3 (length f)
-    ∷ rule4 p
-    ∷ rule5 p n
-    ∷ rule6Three slots levels marks
-    ∷ rule11 slots (length (solution f p n))
-    ∷ [])
+-- and its marks
+abbrev pub marksOf : List ℤ → ℕ → ℕ → List ℕ
+marksOf f p n = map (mark f p n) (solution f p n)
+
+-- the solver's rules
+unfoldable pub solverVerdict : List ℤ → ℕ → ℕ → Lists → Verdict
+solverVerdict f p n given = tried (polynomialRules f p n ++ listRules given (length (solution f p n)))
 
 -- "It returns k and the root count"
 abbrev pub foundOr : Verdict → ℕ → ℕ → Solved
 foundOr passes k roots = Found k roots
 foundOr (refuses r) k roots = Refused r
 
-unfoldable pub solvedOf : List ℤ → ℕ → ℕ → ℕ → ℕ → ℕ → Solved
-solvedOf f p n slots levels marks =
-    foundOr (solverVerdict f p n slots levels marks) (length (solution f p n)) (count (roots f p n) p n)
+-- what a call of the solver answers
+unfoldable pub solvedOf : List ℤ → ℕ → ℕ → Lists → Solved
+solvedOf f p n given = foundOr (solverVerdict f p n given) (length (solution f p n)) (count (roots f p n) p n)
 
--- "It uses the first k slots, k being the number of classes; later slots keep their content": `filled` by the classes' residues and so on
-abbrev pub residuesOf : List Class → List ℕ
-residuesOf = map (λ (c : Class). c .residue)
-
-abbrev pub levelsOf : List Class → List ℕ
-levelsOf = map (λ (c : Class). c .level)
-
-abbrev pub marksOf : List ℤ → ℕ → ℕ → List ℕ
-marksOf f p n = map (mark f p n) (solution f p n)
-
--- the residues, the levels and the marks after the call, from what the three lists held
-abbrev pub residuesAfter : List ℤ → ℕ → ℕ → List ℕ → List ℕ → List ℕ → List ℕ
-residuesAfter f p n residues levels marks =
-    filled (solverVerdict f p n (length residues) (length levels) (length marks)) (residuesOf (solution f p n)) residues
-
-abbrev pub levelsAfter : List ℤ → ℕ → ℕ → List ℕ → List ℕ → List ℕ → List ℕ
-levelsAfter f p n residues levels marks =
-    filled (solverVerdict f p n (length residues) (length levels) (length marks)) (levelsOf (solution f p n)) levels
-
-abbrev pub marksAfter : List ℤ → ℕ → ℕ → List ℕ → List ℕ → List ℕ → List ℕ
-marksAfter f p n residues levels marks =
-    filled (solverVerdict f p n (length residues) (length levels) (length marks)) (marksOf f p n) marks
+-- and what the three lists hold after it
+unfoldable pub listsAfter : List ℤ → ℕ → ℕ → Lists → Lists
+listsAfter f p n given = listsFilled (solverVerdict f p n given) (solution f p n) (marksOf f p n) given
 
 -- the rules of the test of a residue
 unfoldable pub testVerdict : List ℤ → ℕ → ℕ → ℕ → Verdict
-testVerdict f p n point = tried (rule2 (length f) ∷ rule3 (length f) ∷ rule4 p ∷ rule5 p n ∷ rule8 point (p ^ n) ∷ [])
+testVerdict f p n point = tried (polynomialRules f p n ++ rule8 point (p ^ n) ∷ [])
 
 -- "says yes exactly if pⁿ divides f there"
 abbrev pub yesOr : Verdict → Bool → Tested

@@ -1,12 +1,13 @@
 // Finite differences of a polynomial modulo p: its values at 0, 1, 2, … by additions alone.
 //
-// Row c is the differences at c: the value there, the value at c + 1 less it, and so on, as many as there are coefficients. An entry is
-// below p, so 32 bits hold it, and twice as many go into one vector instruction.
+// The row at c has the value there, the value at c + 1 less it, and so on, as many as there are coefficients. An entry is below p, so 32
+// bits hold it, and twice as many go into one vector instruction.
 ghost use mathlib.Core.Path.{_≡_};
-ghost use Prim.Native.Nat.{ℕ, _+_, _-_, _*_, _%_, _≤_, _<_};
-ghost use lib.ListN.{length, getD, take};
+ghost use Prim.Native.Nat.{_+_, _-_, _*_, _%_, _≤_, _<_};
+ghost use lib.ListN.{length, getD};
 ghost use Rattle.theory.specs.Polynomial.{value as valueOf};
-ghost use Rattle.solver.specs.Table.{Below, Row};
+ghost use Rattle.theory.specs.inner.Written.{Written};
+ghost use Rattle.solver.specs.inner.Table.{Below, Differences};
 use crate::polynomial;
 
 // a + b modulo p
@@ -26,60 +27,53 @@ fn minus(a: u32, b: u32, p: u32) -> u32
     if a < b { a + p - b } else { a - b }
 }
 
-// The values at 0, …, len − 1.
-fn values(g: [u64; 65], len: usize, p: u64) -> [u32; 65]
-    requires { ⌜ (len ≤ 65) × (0 < p) × (p ≤ 65535) × Below p (take len g) ⌝ }
-    ensures { λ r. ⌜ ((i : ℕ) → i < len → getD r i 0 ≡ valueOf (take len g) i % p) ⌝ }
+// The values at 0, 1, …, one for each entry.
+fn values(g: &[u32], p: u64, row: &mut [u32])
+    requires { ⌜ (0 < p) × (p ≤ 65535) × (length (now row) ≤ 65) ⌝ }
+    ensures { λ _. ⌜ Written (λ i. valueOf (now (g .entry)) i % p) 0 (length (now (row .entry))) (now (row .entry)) (now (row .exit)) ⌝ }
 {
-    let mut v = [0u32; 65];
     let mut i: usize = 0;
-    while i < len {
-        v[i] = polynomial::value(g, len, i as u64, p) as u32;
+    while i < row.len() {
+        row[i] = polynomial::value(g, i as u64, p) as u32;
         i += 1;
     }
-    v
 }
 
-// Each entry after index k less the entry before it.
-fn stage(v: [u32; 65], k: usize, len: usize, p: u32) -> [u32; 65]
-    requires { ⌜ (k < len) × (len ≤ 65) × (p ≤ 65535) × ((i : ℕ) → i < len → getD v i 0 < p) ⌝ }
-    ensures first { λ r. ⌜ ((i : ℕ) → i ≤ k → getD r i 0 ≡ getD v i 0) ⌝ }
-    ensures others { λ r. ⌜ ((i : ℕ) → k < i → i < len → getD r i 0 ≡ (getD v i 0 + (p - 1) * getD v (i - 1) 0) % p) ⌝ }
+// From each entry after index k the entry before it is taken, the last first.
+fn stage(row: &mut [u32], k: usize, p: u32)
+    requires { ⌜ (k < length (now row)) × (p ≤ 65535) × Below p (now row) ⌝ }
+    ensures { λ _. ⌜ Written (λ i. (getD (now (row .entry)) i 0 + (p - 1) * getD (now (row .entry)) (i - 1) 0) % p)
+        (k + 1) (length (now (row .entry))) (now (row .entry)) (now (row .exit)) ⌝ }
 {
-    let mut w = v;
-    let mut i = k + 1;
-    while i < len {
-        w[i] = minus(v[i], v[i - 1], p);
-        i += 1;
+    let mut i = row.len() - 1;
+    while k < i {
+        row[i] = minus(row[i], row[i - 1], p);
+        i -= 1;
     }
-    w
 }
 
-// Row 0: after k stages the first k + 1 entries are its own.
-pub(crate) fn first_row(g: [u64; 65], len: usize, p: u64) -> [u32; 65]
-    requires { ⌜ (len ≤ 65) × (0 < p) × (p ≤ 65535) × Below p (take len g) ⌝ }
-    ensures { λ r. ⌜ Row p len (take len g) 0 r ⌝ }
+// The row at 0: after k stages its first k + 1 entries stand.
+pub(crate) fn first_row(g: &[u32], p: u64, row: &mut [u32])
+    requires { ⌜ (0 < p) × (p ≤ 65535) × (length (now row) ≤ 65) ⌝ }
+    ensures { λ _. ⌜ Differences p (now (g .entry)) 0 (now (row .exit)) ⌝ }
 {
-    let mut v = values(g, len, p);
+    values(g, p, row);
     let mut k: usize = 0;
-    while k < len {
-        let next = stage(v, k, len, p as u32);
-        v = next;
+    while k < row.len() {
+        stage(row, k, p as u32);
         k += 1;
     }
-    v
 }
 
-// From row c to row c + 1: to each entry the next is added. The last entry stays.
-pub(crate) fn advance(t: &mut [u32], len: usize, p: u32)
-    requires { ⌜ (0 < len) × (len ≤ length (now t)) × (p ≤ 65535) × ((i : ℕ) → i < len → getD (now t) i 0 < p) ⌝ }
-    ensures others { λ _. ⌜ ((i : ℕ) → i + 1 < len
-        → getD (now (t .exit)) i 0 ≡ (getD (now (t .entry)) i 0 + getD (now (t .entry)) (i + 1) 0) % p) ⌝ }
-    ensures last { λ _. ⌜ getD (now (t .exit)) (len - 1) 0 ≡ getD (now (t .entry)) (len - 1) 0 ⌝ }
+// From the row at c to the one at c + 1: to each entry the next is added. The last entry stays.
+pub(crate) fn advance(row: &mut [u32], p: u32)
+    requires { ⌜ (p ≤ 65535) × Below p (now row) ⌝ }
+    ensures { λ _. ⌜ Written (λ i. (getD (now (row .entry)) i 0 + getD (now (row .entry)) (i + 1) 0) % p)
+        0 (length (now (row .entry)) - 1) (now (row .entry)) (now (row .exit)) ⌝ }
 {
     let mut j: usize = 0;
-    while j + 1 < len {
-        t[j] = plus(t[j], t[j + 1], p);
+    while j + 1 < row.len() {
+        row[j] = plus(row[j], row[j + 1], p);
         j += 1;
     }
 }

@@ -1,32 +1,24 @@
 // The zeros of a polynomial modulo p.
 ghost use mathlib.Core.Path.{_≡_};
 ghost use mathlib.Core.Bool.{true};
-ghost use Prim.Native.Nat.{ℕ, _+_, _-_, _*_, _%_, _≤_, _<_};
-ghost use lib.ListN.{getD, take};
-ghost use Rattle.theory.specs.Range.{passing};
-ghost use Rattle.theory.proofs.Numbers.Prime.{Prime};
-ghost use Rattle.theory.proofs.Polynomials.Quotient.{Degree};
-ghost use Rattle.solver.specs.Table.{Below, Residues, nonzeroModulo, vanishes};
+ghost use Prim.Native.Nat.{_-_, _*_, _%_, _≤_, _<_};
+ghost use lib.ListN.{length, take};
+ghost use Rattle.theory.specs.Prime.{Prime};
+ghost use Rattle.theory.specs.inner.Polynomial.{Degree};
+ghost use Rattle.solver.specs.inner.Table.{Below, Residues, nonzeroModulo, zeroDigits};
 use crate::differences;
 use crate::polynomial;
 
-pub(crate) struct Digits {
-    pub(crate) count: usize,
-    pub(crate) digits: [u64; 65],
-}
-
-// The coefficients modulo p.
-fn modulo(h: [u64; 65], len: usize, p: u64) -> [u64; 65]
-    requires { ⌜ (len ≤ 65) × (0 < p) ⌝ }
-    ensures { λ r. ⌜ Residues p len r h ⌝ }
+// The coefficients modulo p, as many as g has entries.
+fn reduce(h: &[u32], p: u64, g: &mut [u32])
+    requires { ⌜ (0 < p) × (length (now g) ≤ length (now h)) ⌝ }
+    ensures { λ _. ⌜ Residues p (now (g .exit)) (now (h .entry)) ⌝ }
 {
-    let mut g = h;
     let mut i: usize = 0;
-    while i < len {
-        g[i] = h[i] % p;
+    while i < g.len() {
+        g[i] = (h[i] as u64 % p) as u32;
         i += 1;
     }
-    g
 }
 
 // The inverse of a modulo p. Each step has x·a ≡ d; as p = (p / d)·d + p % d, −(p / d)·x·a ≡ p % d.
@@ -44,78 +36,79 @@ fn inverse(a: u64, p: u64) -> u64
 }
 
 // The one digit at which a polynomial of degree 1 modulo p vanishes.
-fn linear(g: [u64; 65], p: u64) -> Digits
-    requires { ⌜ Prime p × (p ≤ 65535) × Below p (take 2 g) × Degree p (take 2 g) 1 ⌝ }
-    ensures { λ r. ⌜ (r .count ≤ 64) × (take (r .count) (r .digits) ≡ passing (vanishes p (take 2 g)) p 0) ⌝ }
+fn linear(g: &[u32], p: u64, zeros: &mut [u16]) -> usize
+    requires { ⌜ (length (now g) ≡ 2) × Prime p × (p ≤ 65535) × Below p (now g) × Degree p (now g) 1 × (64 ≤ length (now zeros)) ⌝ }
+    ensures { λ r. ⌜ (r ≤ 64) × (take r (now (zeros .exit)) ≡ zeroDigits p (now (g .entry))) ⌝ }
 {
-    let mut digits = [0u64; 65];
-    digits[0] = (p - g[0]) * inverse(g[1], p) % p;
-    Digits { count: 1, digits }
+    zeros[0] = ((p - g[0] as u64) * inverse(g[1] as u64, p) % p) as u16;
+    1
 }
 
-// The digits at which a polynomial of degree len − 1 modulo p vanishes, rising: at most 64.
-fn search(g: [u64; 65], len: usize, p: u64) -> Digits
-    requires { ⌜ (len ≤ 65) × Prime p × (p ≤ 65535) × Below p (take len g) × Degree p (take len g) (len - 1) ⌝ }
-    ensures { λ r. ⌜ (r .count ≤ 64) × (take (r .count) (r .digits) ≡ passing (vanishes p (take len g)) p 0) ⌝ }
+// The digits at which a polynomial vanishes whose degree modulo p is that of its last coefficient, rising: at most 64.
+fn search(g: &[u32], p: u64, zeros: &mut [u16]) -> usize
+    requires { ⌜ (length (now g) ≤ 65) × Prime p × (p ≤ 65535) × Degree p (now g) (length (now g) - 1) × (64 ≤ length (now zeros)) ⌝ }
+    ensures { λ r. ⌜ (r ≤ 64) × (take r (now (zeros .exit)) ≡ zeroDigits p (now (g .entry))) ⌝ }
 {
-    let mut digits = [0u64; 65];
     let mut count: usize = 0;
     let mut c: u64 = 0;
     while c < p {
-        if polynomial::value(g, len, c, p) == 0 {
-            digits[count] = c;
+        if polynomial::value(g, c, p) == 0 {
+            zeros[count] = c as u16;
             count += 1;
         }
         c += 1;
     }
-    Digits { count, digits }
+    count
 }
 
 // The same by differences, which take one addition a coefficient and digit, and no division.
-fn search_rows(g: [u64; 65], len: usize, p: u64) -> Digits
-    requires { ⌜ (0 < len) × (len ≤ 65) × Prime p × (p ≤ 65535) × Below p (take len g) × Degree p (take len g) (len - 1) ⌝ }
-    ensures { λ r. ⌜ (r .count ≤ 64) × (take (r .count) (r .digits) ≡ passing (vanishes p (take len g)) p 0) ⌝ }
+fn search_by_differences(g: &[u32], p: u64, zeros: &mut [u16]) -> usize
+    requires { ⌜ (0 < length (now g)) × (length (now g) ≤ 65) × Prime p × (p ≤ 65535) × Degree p (now g) (length (now g) - 1)
+        × (64 ≤ length (now zeros)) ⌝ }
+    ensures { λ r. ⌜ (r ≤ 64) × (take r (now (zeros .exit)) ≡ zeroDigits p (now (g .entry))) ⌝ }
 {
-    let mut row = differences::first_row(g, len, p);
-    let mut digits = [0u64; 65];
+    let mut table = [0u32; 65];
+    let len = g.len();
+    differences::first_row(g, p, &mut table[..len]);
     let mut count: usize = 0;
     let mut c: u64 = 0;
     while c < p {
-        if row[0] == 0 {
-            digits[count] = c;
+        if table[0] == 0 {
+            zeros[count] = c as u16;
             count += 1;
         }
-        differences::advance(&mut row, len, p as u32);
+        differences::advance(&mut table[..len], p as u32);
         c += 1;
     }
-    Digits { count, digits }
+    count
 }
 
 // The same by the cheapest way: where there are few digits, the first row of differences costs more than it saves.
-fn by_degree(g: [u64; 65], len: usize, p: u64) -> Digits
-    requires { ⌜ (0 < len) × (len ≤ 65) × Prime p × (p ≤ 65535) × Below p (take len g) × Degree p (take len g) (len - 1) ⌝ }
-    ensures { λ r. ⌜ (r .count ≤ 64) × (take (r .count) (r .digits) ≡ passing (vanishes p (take len g)) p 0) ⌝ }
+fn by_degree(g: &[u32], p: u64, zeros: &mut [u16]) -> usize
+    requires { ⌜ (0 < length (now g)) × (length (now g) ≤ 65) × Prime p × (p ≤ 65535) × Below p (now g)
+        × Degree p (now g) (length (now g) - 1) × (64 ≤ length (now zeros)) ⌝ }
+    ensures { λ r. ⌜ (r ≤ 64) × (take r (now (zeros .exit)) ≡ zeroDigits p (now (g .entry))) ⌝ }
 {
+    let len = g.len();
     if len == 1 {
-        return Digits {
-            count: 0,
-            digits: [0u64; 65],
-        };
+        return 0;
     }
     if len == 2 {
-        return linear(g, p);
+        return linear(g, p, zeros);
     }
     if p <= 2 * len as u64 {
-        return search(g, len, p);
+        return search(g, p, zeros);
     }
-    search_rows(g, len, p)
+    search_by_differences(g, p, zeros)
 }
 
-// The digits at which h vanishes modulo p, rising.
-pub(crate) fn zero_digits(h: [u64; 65], len: usize, p: u64) -> Digits
-    requires { ⌜ (len ≤ 65) × Prime p × (p ≤ 65535) × (nonzeroModulo p (take len h) ≡ true) ⌝ }
-    ensures { λ r. ⌜ (r .count ≤ 64) × (take (r .count) (r .digits) ≡ passing (vanishes p (take len h)) p 0) ⌝ }
+// The digits at which h vanishes modulo p, rising, into the first entries of `zeros`; their number.
+pub(crate) fn zero_digits(h: &[u32], p: u64, zeros: &mut [u16]) -> usize
+    requires { ⌜ (length (now h) ≤ 65) × Prime p × (p ≤ 65535) × (nonzeroModulo p (now h) ≡ true) × (64 ≤ length (now zeros)) ⌝ }
+    ensures { λ r. ⌜ (r ≤ 64) × (take r (now (zeros .exit)) ≡ zeroDigits p (now (h .entry))) ⌝ }
 {
-    let d = polynomial::degree(h, len, p);
-    by_degree(modulo(h, d + 1, p), d + 1, p)
+    let len = polynomial::degree(h, p) + 1;
+    let mut g = [0u32; 65];
+    reduce(h, p, &mut g[..len]);
+    by_degree(&g[..len], p, zeros)
 }

@@ -2,52 +2,49 @@
 ghost use mathlib.Core.Path.{_≡_};
 ghost use mathlib.Core.List.{map, _++_};
 ghost use Prim.Native.Nat.{_-_, _≤_, _<_};
-ghost use lib.ListN.{length, take, drop};
+ghost use lib.ListN.{length, drop};
 ghost use Rattle.theory.specs.Polynomial.{derivative as derivativeOf};
-ghost use Rattle.solver.specs.Table.{Below, Residues};
-ghost use Rattle.solver.specs.Code.{markFrom, markAt};
+ghost use Rattle.theory.specs.Mark.{markOf};
+ghost use Rattle.solver.specs.inner.Table.{Residues, markFrom};
+ghost use Rattle.solver.specs.inner.Code.{classOf};
+use crate::polynomial;
 
-// The derivative modulo p: len − 1 coefficients.
-pub(crate) fn derivative(g: [u64; 65], len: usize, p: u64) -> [u64; 65]
-    requires { ⌜ (len ≤ 65) × (0 < p) × (p ≤ 65535) ⌝ }
-    ensures { λ r. ⌜ Residues p (len - 1) r (derivativeOf (take len g)) ⌝ }
+// The derivative modulo p, one coefficient fewer.
+fn derivative(g: &[u32], p: u64, d: &mut [u32])
+    requires { ⌜ (length (now g) ≤ 65) × (length (now d) ≡ length (now g) - 1) × (0 < p) × (p ≤ 65535) ⌝ }
+    ensures { λ _. ⌜ Residues p (now (d .exit)) (derivativeOf (now (g .entry))) ⌝ }
 {
-    let mut d = [0u64; 65];
-    let mut i: usize = 1;
-    while i < len {
-        d[i - 1] = (i as u64) * (g[i] % p) % p;
+    let mut i: usize = 0;
+    while i < d.len() {
+        d[i] = ((i as u64 + 1) * (g[i + 1] as u64 % p) % p) as u32;
         i += 1;
     }
-    d
 }
 
-// The mark of a class of residue a: 1 if p does not divide f'(a), otherwise 0.
-fn mark(d: [u64; 65], len: usize, a: u64, p: u64) -> u8
-    requires { ⌜ (len ≤ 65) × (0 < p) × (p ≤ 65535) × Below p (take len d) ⌝ }
-    ensures { λ r. ⌜ r ≡ markFrom p (take len d) a ⌝ }
+// The mark at a from the derivative d modulo p: 1 if p does not divide its value, otherwise 0.
+fn mark(d: &[u32], a: u64, p: u64) -> u8
+    requires { ⌜ (0 < p) × (p ≤ 65535) ⌝ }
+    ensures { λ r. ⌜ r ≡ markFrom p (now (d .entry)) a ⌝ }
 {
-    if crate::polynomial::value(d, len, a % p, p) == 0 {
+    if polynomial::value(d, a % p, p) == 0 {
         return 0;
     }
     1
 }
 
-pub(crate) fn write_marks(
-    codes: &[u64],
-    k: usize,
-    d: [u64; 65],
-    len: usize,
-    p: u64,
-    marks: &mut [u8],
-)
-    requires { ⌜ (k ≤ length (now codes)) × (k ≤ length (now marks)) × (len ≤ 65) × (0 < p) × (p ≤ 65535)
-        × Below p (take len d) ⌝ }
+// The marks of the classes with these codes.
+pub(crate) fn write_marks(g: &[u32], p: u64, codes: &[u64], marks: &mut [u8])
+    requires { ⌜ (0 < length (now g)) × (length (now g) ≤ 65) × (0 < p) × (p ≤ 65535) × (length (now codes) ≤ length (now marks)) ⌝ }
     ensures { λ _. ⌜ now (marks .exit)
-        ≡ map (markAt p (take len d)) (take k (now (codes .entry))) ++ drop k (now (marks .entry)) ⌝ }
+        ≡ map (markOf (now (g .entry)) p) (map classOf (now (codes .entry)))
+        ++ drop (length (now (codes .entry))) (now (marks .entry)) ⌝ }
 {
+    let mut d = [0u32; 65];
+    let len = g.len() - 1;
+    derivative(g, p, &mut d[..len]);
     let mut i: usize = 0;
-    while i < k {
-        marks[i] = mark(d, len, codes[i] / 256, p);
+    while i < codes.len() {
+        marks[i] = mark(&d[..len], codes[i] / 256, p);
         i += 1;
     }
 }

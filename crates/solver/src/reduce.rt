@@ -19,14 +19,14 @@ fn reduce(x: i64, m: u64) -> u64
 }
 
 // The coefficients modulo m as a table of 65, zero after the last.
-pub(crate) fn reduced(coefficients: &[i64], m: u64) -> [u64; 65]
-    requires { ⌜ (0 < m) × (length (now coefficients) ≤ 65) ⌝ }
+pub(crate) fn reduced(coefficients: &[i64], m: u64) -> [u32; 65]
+    requires { ⌜ (0 < m) × (m ≤ 4294967295) × (length (now coefficients) ≤ 65) ⌝ }
     ensures { λ r. ⌜ take (length (now (coefficients .entry))) r ≡ map (reduceOf m) (now (coefficients .entry)) ⌝ }
 {
-    let mut table = [0u64; 65];
+    let mut table = [0u32; 65];
     let mut i: usize = 0;
     while i < coefficients.len() {
-        table[i] = reduce(coefficients[i], m);
+        table[i] = reduce(coefficients[i], m) as u32;
         i += 1;
     }
     table

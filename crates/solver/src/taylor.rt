@@ -1,63 +1,59 @@
-// The Taylor shift h(c + p·y) modulo m, its first `cap` coefficients: where m divides p^cap the others vanish.
+// The Taylor shift h(c + p·y) modulo m, its first coefficients: where m divides p^k, those from index k on vanish.
 ghost use mathlib.Core.Path.{_≡_};
-ghost use Prim.Native.Nat.{ℕ, _+_, _-_, _*_, _%_, _^_, _≤_, _<_};
-ghost use lib.ListN.{length, getD, take};
-ghost use Rattle.theory.proofs.Polynomials.Taylor.{taylor as taylorOf, shifted as shiftedOf};
-ghost use Rattle.solver.specs.Table.{Below, Residues};
-use crate::least;
+ghost use mathlib.Core.List.{_∷_};
+ghost use Prim.Native.Nat.{ℕ, _+_, _*_, _%_, _^_, _≤_, _<_};
+ghost use lib.ListN.{length, getD};
+ghost use Rattle.theory.specs.inner.Polynomial.{coef, taylor as taylorOf, shifted as shiftedOf};
+ghost use Rattle.theory.specs.inner.Written.{Written};
+ghost use Rattle.solver.specs.inner.Table.{Residues};
 
-// a + (c + y)·g(y), its first `cap` coefficients: one step of Horner's rule on polynomials. Lent, so that no table is copied.
-fn horner_step(g: &mut [u64], cap: usize, a: u64, c: u64, m: u64)
-    requires { ⌜ (0 < cap) × (cap ≤ length (now g)) × (0 < m) × (m ≤ 4294967295) × (a < m) × (c < 65536)
-        × ((i : ℕ) → i < cap → getD (now g) i 0 < m) ⌝ }
-    ensures first { λ _. ⌜ getD (now (g .exit)) 0 0 ≡ (a + c * getD (now (g .entry)) 0 0) % m ⌝ }
-    ensures others { λ _. ⌜ ((i : ℕ) → 0 < i → i < cap
-        → getD (now (g .exit)) i 0 ≡ (getD (now (g .entry)) (i - 1) 0 + c * getD (now (g .entry)) i 0) % m) ⌝ }
-    ensures beyond { λ _. ⌜ ((i : ℕ) → cap ≤ i → getD (now (g .exit)) i 0 ≡ getD (now (g .entry)) i 0) ⌝ }
+// a + (c + y)·g(y), its first `top` coefficients: one step of Horner's rule on polynomials.
+fn horner_step(g: &mut [u32], top: usize, a: u64, c: u64, m: u64)
+    requires { ⌜ (0 < top) × (top ≤ length (now g)) × (0 < m) × (m ≤ 4294967295) × (a < 4294967296) × (c < 65536) ⌝ }
+    ensures { λ _. ⌜ Written (λ i. (coef (a ∷ now (g .entry)) i + c * coef (now (g .entry)) i) % m) 0 top
+        (now (g .entry)) (now (g .exit)) ⌝ }
 {
-    let mut i = cap;
+    let mut i = top;
     while 1 < i {
         i -= 1;
-        g[i] = (g[i - 1] + c * g[i]) % m;
+        g[i] = ((g[i - 1] as u64 + c * g[i] as u64) % m) as u32;
     }
-    g[0] = (a + c * g[0]) % m;
+    g[0] = ((a + c * g[0] as u64) % m) as u32;
 }
 
-// h(c + y). With k coefficients of h done there are k coefficients, so the next step makes at most k + 1.
-fn taylor(h: [u64; 65], len: usize, cap: usize, c: u64, m: u64) -> [u64; 65]
-    requires { ⌜ (len ≤ 65) × (0 < cap) × (cap ≤ 65) × (0 < m) × (m ≤ 4294967295) × (c < 65536) × Below m (take len h) ⌝ }
-    ensures { λ r. ⌜ Residues m cap r (taylorOf c (take len h)) ⌝ }
+// h(c + y) into g, which holds zeros. With k coefficients of h done there are k coefficients, so the next step makes at most k + 1.
+fn taylor(h: &[u32], c: u64, m: u64, g: &mut [u32])
+    requires { ⌜ (0 < length (now g)) × (0 < m) × (m ≤ 4294967295) × (c < 65536) × ((i : ℕ) → getD (now g) i 0 ≡ 0) ⌝ }
+    ensures { λ _. ⌜ Residues m (now (g .exit)) (taylorOf c (now (h .entry))) ⌝ }
 {
-    let mut g = [0u64; 65];
-    let mut j = len;
+    let mut j = h.len();
     while 0 < j {
         j -= 1;
-        horner_step(&mut g, least(cap, len - j), h[j], c, m);
+        let top = numbers::smaller(g.len(), h.len() - j);
+        horner_step(g, top, h[j] as u64, c, m);
     }
-    g
 }
 
 // g(p·y)
-fn stretch(g: [u64; 65], cap: usize, p: u64, m: u64) -> [u64; 65]
-    requires { ⌜ (cap ≤ 65) × (0 < m) × (m ≤ 4294967295) × (p < 65536) × Below m (take cap g) ⌝ }
-    ensures { λ r. ⌜ ((i : ℕ) → i < cap → getD r i 0 ≡ p ^ i * getD g i 0 % m) ⌝ }
+fn stretch(g: &mut [u32], p: u64, m: u64)
+    requires { ⌜ (0 < m) × (m ≤ 4294967295) × (p < 65536) ⌝ }
+    ensures { λ _. ⌜ Written (λ i. p ^ i * coef (now (g .entry)) i % m) 0 (length (now (g .entry))) (now (g .entry)) (now (g .exit)) ⌝ }
 {
-    let mut h = g;
     let mut power: u64 = 1;
     let mut i: usize = 0;
-    while i < cap {
-        h[i] = g[i] * power % m;
+    while i < g.len() {
+        g[i] = (g[i] as u64 * power % m) as u32;
         power = power * p % m;
         i += 1;
     }
-    h
 }
 
-// h(c + p·y)
-pub(crate) fn shifted(h: [u64; 65], len: usize, cap: usize, c: u64, p: u64, m: u64) -> [u64; 65]
-    requires { ⌜ (len ≤ 65) × (0 < cap) × (cap ≤ 65) × (0 < m) × (m ≤ 4294967295) × (c < 65536)
-        × (p < 65536) × Below m (take len h) ⌝ }
-    ensures { λ r. ⌜ Residues m cap r (shiftedOf c p (take len h)) ⌝ }
+// h(c + p·y) into g, which holds zeros.
+pub(crate) fn shift(h: &[u32], c: u64, p: u64, m: u64, g: &mut [u32])
+    requires { ⌜ (0 < length (now g)) × (0 < m) × (m ≤ 4294967295) × (c < 65536) × (p < 65536)
+        × ((i : ℕ) → getD (now g) i 0 ≡ 0) ⌝ }
+    ensures { λ _. ⌜ Residues m (now (g .exit)) (shiftedOf c p (now (h .entry))) ⌝ }
 {
-    stretch(taylor(h, len, cap, c, m), cap, p, m)
+    taylor(h, c, m, g);
+    stretch(g, p, m);
 }

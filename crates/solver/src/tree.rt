@@ -2,17 +2,35 @@
 //
 // A class is kept as one number, residue × 256 + level, so that the order of the numbers is the order of the residues.
 ghost use mathlib.Core.Path.{_≡_};
-ghost use mathlib.Core.Bool.{true};
-ghost use mathlib.Core.List.{[], _∷_, _++_};
-ghost use Prim.Native.Nat.{_+_, _*_, _≤_, _<_};
+ghost use mathlib.Core.Bool.{Bool, true};
+ghost use Prim.Native.Nat.{ℕ, _+_, _^_, _≤_, _<_};
 ghost use lib.ListN.{length, take};
-ghost use Rattle.solver.specs.Table.{degreeModulo, nonzeroModulo};
-ghost use Rattle.solver.specs.Recursion.{room, Node, Done};
+ghost use Rattle.theory.specs.Range.{allBelow};
+ghost use Rattle.theory.specs.Polynomial.{zeros as zerosOf};
+ghost use Rattle.solver.specs.inner.Table.{degreeModulo};
+ghost use Rattle.solver.specs.inner.Recursion.{IsNode, AtNode, Primitive, childAt, mostClasses, Done};
 use crate::digits;
-use crate::least;
 use crate::polynomial;
 use crate::taylor;
 use crate::valuation;
+
+// The modulus of a polynomial: a power of a prime.
+pub(crate) struct PrimePower {
+    pub(crate) p: u64,
+    pub(crate) exponent: u64,
+    // p^exponent
+    pub(crate) power: u64,
+}
+
+// A class residue/level in the tree of digits.
+pub(crate) struct Node {
+    pub(crate) residue: u64,
+    // p^level
+    pub(crate) power: u64,
+    pub(crate) level: u64,
+    // the levels below it
+    pub(crate) left: u64,
+}
 
 pub(crate) struct Settled {
     // the number of classes now
@@ -21,88 +39,91 @@ pub(crate) struct Settled {
     pub(crate) whole: bool,
 }
 
-// Puts the one class a/t, which is whole, after the first k.
-fn put_whole(a: u64, t: u64, out: &mut [u64], k: usize) -> Settled
-    requires { ⌜ (a < 4294967296) × (t < 256) × (k < length (now out)) ⌝ }
-    ensures { λ r. ⌜ (r .k ≡ k + 1) × (r .whole ≡ true)
-        × (take (k + 1) (now (out .exit)) ≡ take k (now (out .entry)) ++ ((a * 256 + t) ∷ [])) ⌝ }
+// Puts the node's class, which is whole, after the first k.
+fn put_whole(node: Node, out: &mut [u64], k: usize) -> Settled
+    requires { ⌜ (node .residue < 4294967296) × (node .level < 256) × (k < length (now out)) ⌝ }
+    ensures { λ r. ⌜ ((S : ℕ → Bool) (p : ℕ) → allBelow S (p ^ node .left) ≡ true
+        → Done S p node k r (now (out .entry)) (now (out .exit))) ⌝ }
 {
-    out[k] = a * 256 + t;
+    out[k] = node.residue * 256 + node.level;
     Settled {
         k: k + 1,
         whole: true,
     }
 }
 
-// The class a/t, where q is p^t and g(y) is f(a + q·y) up to a power of p: its roots are the zeros of g modulo m = p^e.
+// The class one level below, at the digit c.
+fn child(node: Node, p: u64, c: u64) -> Node
+    requires { ⌜ IsNode p node × (0 < node .left) × (c < p) ⌝ }
+    ensures { λ r. ⌜ r ≡ childAt node p c ⌝ }
+{
+    Node {
+        residue: node.residue + node.power * c,
+        power: node.power * p,
+        level: node.level + 1,
+        left: node.left - 1,
+    }
+}
+
+// The classes of the node's class, where g(y), its first `len` coefficients, is f(residue + power·y) up to a power of p: its roots are the
+// zeros of g modulo `over`.
 pub(crate) fn settle(
-    g: [u64; 65],
+    mut g: [u32; 65],
     len: usize,
-    p: u64,
-    e: u64,
-    m: u64,
-    a: u64,
-    q: u64,
-    t: u64,
-    left: u64,
+    over: PrimePower,
+    node: Node,
     out: &mut [u64],
     k: usize,
 ) -> Settled
-    requires { ⌜ (len ≤ 65) × Node (take len g) p e m a q t left × (k + room p (take len g) ≤ length (now out)) ⌝ }
-    ensures { λ r. ⌜ Done (take len g) p e a q t left k (r .k) (r .whole) (now (out .entry)) (now (out .exit)) ⌝ }
+    requires { ⌜ (len ≤ 65) × AtNode (take len g) over node × (k + mostClasses (over .p) (take len g) ≤ length (now out)) ⌝ }
+    ensures { λ r. ⌜ Done (zerosOf (take len g) (over .p) (over .exponent)) (over .p) node k r (now (out .entry)) (now (out .exit)) ⌝ }
 {
-    if polynomial::all_zero(g, len) {
-        return put_whole(a, t, out, k);
+    let coefficients = &g[..len];
+    if polynomial::all_zero(coefficients) {
+        return put_whole(node, out, k);
     }
-    if left == 0 {
+    if node.left == 0 {
         if g[0] == 0 {
-            return put_whole(a, t, out, k);
+            return put_whole(node, out, k);
         }
         return Settled { k, whole: false };
     }
-    let s = valuation::least_valuation(g, len, p);
-    let power = valuation::power(p, s);
-    let h = polynomial::divided(g, len, power);
-    scan(h, len, p, e - s, m / power, a, q, t, left, out, k)
+    let s = valuation::least_valuation(coefficients, over.p);
+    let power = numbers::power(over.p as u32, s as u32);
+    polynomial::divide(&mut g[..len], power as u32);
+    let rest = PrimePower {
+        p: over.p,
+        exponent: over.exponent - s,
+        power: over.power / power,
+    };
+    scan(&g[..len], rest, node, out, k)
 }
 
-// The p classes one level below a/t. At a digit where h does not vanish modulo p there is no zero.
-fn scan(
-    h: [u64; 65],
-    len: usize,
-    p: u64,
-    e: u64,
-    m: u64,
-    a: u64,
-    q: u64,
-    t: u64,
-    left: u64,
-    out: &mut [u64],
-    k: usize,
-) -> Settled
-    requires { ⌜ (len ≤ 65) × Node (take len h) p e m a q t left × (0 < e) × (0 < left)
-        × (nonzeroModulo p (take len h) ≡ true) × (k + degreeModulo p (take len h) ≤ length (now out)) ⌝ }
-    ensures { λ r. ⌜ Done (take len h) p e a q t left k (r .k) (r .whole) (now (out .entry)) (now (out .exit)) ⌝ }
+// The same by the p classes one level below. Only a digit at which h vanishes modulo p can have a zero below it.
+fn scan(h: &[u32], over: PrimePower, node: Node, out: &mut [u64], k: usize) -> Settled
+    requires { ⌜ Primitive (now h) over node × (k + degreeModulo (over .p) (now h) ≤ length (now out)) ⌝ }
+    ensures { λ r. ⌜ Done (zerosOf (now (h .entry)) (over .p) (over .exponent)) (over .p) node k r
+        (now (out .entry)) (now (out .exit)) ⌝ }
 {
-    let found = digits::zero_digits(h, len, p);
-    let zeros = found.digits;
-    let count = found.count;
-    let cap = least(e as usize, len);
+    let mut zeros = [0u16; 64];
+    let count = digits::zero_digits(h, over.p, &mut zeros);
+    let cap = numbers::smaller(over.exponent as usize, h.len());
     let mut at = k;
     let mut all = true;
     let mut i: usize = 0;
     while i < count {
-        let c = zeros[i];
-        let g = taylor::shifted(h, len, cap, c, p, m);
-        let child = settle(g, cap, p, e, m, a + q * c, q * p, t + 1, left - 1, out, at);
-        at = child.k;
-        if !child.whole {
+        let c = zeros[i] as u64;
+        let mut g = [0u32; 65];
+        taylor::shift(h, c, over.p, over.power, &mut g[..cap]);
+        let settled = settle(g, cap, over, child(node, over.p, c), out, at);
+        at = settled.k;
+        if !settled.whole {
             all = false;
         }
         i += 1;
     }
-    if all && count as u64 == p {
-        return put_whole(a, t, out, k);
+    if all && count as u64 == over.p {
+        return put_whole(node, out, k);
     }
     Settled {
         k: at,

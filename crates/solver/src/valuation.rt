@@ -1,10 +1,9 @@
 // Valuations: how many times p divides a number.
 ghost use mathlib.Core.Path.{_≡_};
 ghost use mathlib.Core.Bool.{false};
-ghost use Prim.Native.Nat.{_^_, _≤_, _<_};
-ghost use lib.ListN.{take};
+ghost use Prim.Native.Nat.{_≤_, _<_};
 ghost use Rattle.theory.specs.Degree.{valuation as valuationOf, leastValuation, allZero};
-ghost use Rattle.solver.specs.Table.{Below, lowerOf};
+ghost use Rattle.solver.specs.inner.Table.{lowerOf};
 
 // The valuation for p = 2 is the number of trailing zero bits.
 fn valuation_two(x: u64) -> u64
@@ -46,37 +45,19 @@ fn lower(best: u64, x: u64, p: u64) -> u64
     if x == 0 {
         return best;
     }
-    let v = valuation(x, p);
-    if v < best {
-        return v;
-    }
-    best
+    numbers::smaller(valuation(x, p) as usize, best as usize) as u64
 }
 
 // The least valuation of the nonzero coefficients.
-pub(crate) fn least_valuation(g: [u64; 65], len: usize, p: u64) -> u64
-    requires { ⌜ (len ≤ 65) × (2 ≤ p) × Below 4294967296 (take len g) × (allZero (take len g) ≡ false) ⌝ }
-    ensures { λ r. ⌜ r ≡ leastValuation p (take len g) ⌝ }
+pub(crate) fn least_valuation(g: &[u32], p: u64) -> u64
+    requires { ⌜ (2 ≤ p) × (allZero (now g) ≡ false) ⌝ }
+    ensures { λ r. ⌜ r ≡ leastValuation p (now (g .entry)) ⌝ }
 {
     let mut best: u64 = 64;
     let mut i: usize = 0;
-    while i < len {
-        best = lower(best, g[i], p);
+    while i < g.len() {
+        best = lower(best, g[i] as u64, p);
         i += 1;
     }
     best
-}
-
-// p^k
-pub(crate) fn power(p: u64, k: u64) -> u64
-    requires { ⌜ (0 < p) × (p ^ k ≤ 4294967295) ⌝ }
-    ensures { λ r. ⌜ r ≡ p ^ k ⌝ }
-{
-    let mut q: u64 = 1;
-    let mut i: u64 = 0;
-    while i < k {
-        q = q * p;
-        i += 1;
-    }
-    q
 }

@@ -1,4 +1,5 @@
--- The third demand, proved of the solver's and next's contracts.
+-- The third demand over solver and next together.
 pub mod Accept
+pub mod Answers
 pub mod Demand
-pub mod Rows
+pub mod Maps

@@ -3,10 +3,10 @@ use mathlib.Core.Path.{_≡_}
 use mathlib.Core.List.{List}
 use Prim.Native.Nat.{ℕ}
 use lib.IntN.{ℤ}
-use lib.ListN.{length, take}
+use lib.ListN.{take}
 use Rattle.theory.specs.Class.{Class}
 use Rattle.solver.specs.declared.Solved.the-variants.{Found}
-use Rattle.solver.specs.Solve.{solvedOf, residuesAfter, levelsAfter}
+use Rattle.solver.specs.Solve.{Lists, solvedOf, listsAfter}
 use Rattle.classes.specs.Rule7.{classesOf}
 
 -- coefficients, p and n, and the three lists as lent
@@ -14,22 +14,23 @@ pub record Input : Type 0 where
   pub f : List ℤ
   pub p : ℕ
   pub n : ℕ
-  pub residues : List ℕ
-  pub levels : List ℕ
-  pub marks : List ℕ
+  pub given : Lists
 
 -- the call is accepted and returns k and the root count: the solver's contract, clause `answer`
 pub record Accepted (x : Input) (k roots : ℕ) : Type 0 where
-  pub answer : solvedOf (x .f) (x .p) (x .n) (length (x .residues)) (length (x .levels)) (length (x .marks)) ≡ Found k roots
+  pub answer : solvedOf (x .f) (x .p) (x .n) (x .given) ≡ Found k roots
 
--- the residues and the levels after the call: the solver's contract, clauses `residues` and `levels`
-unfoldable pub residuesLeft : Input → List ℕ
-residuesLeft x = residuesAfter (x .f) (x .p) (x .n) (x .residues) (x .levels) (x .marks)
+-- the lists after the call: the solver's contract, clause `lists`
+unfoldable pub left : Input → Lists
+left x = listsAfter (x .f) (x .p) (x .n) (x .given)
 
-unfoldable pub levelsLeft : Input → List ℕ
-levelsLeft x = levelsAfter (x .f) (x .p) (x .n) (x .residues) (x .levels) (x .marks)
+-- "the first k slots of residues and levels as the solver left them"
+abbrev pub firstResidues : Input → ℕ → List ℕ
+firstResidues x k = take k (left x .residues)
 
--- the classes in the first k slots
+abbrev pub firstLevels : Input → ℕ → List ℕ
+firstLevels x k = take k (left x .levels)
+
+-- the classes in these slots
 unfoldable pub firstSlots : Input → ℕ → List Class
-unfolding residuesLeft levelsLeft
-firstSlots x k = classesOf (take k (residuesLeft x)) (take k (levelsLeft x))
+firstSlots x k = classesOf (firstResidues x k) (firstLevels x k)

@@ -3,21 +3,20 @@ use mathlib.Core.Path.{_≡_}
 use mathlib.Core.Bool.{true, false}
 use mathlib.Core.List.{List, [], _∷_}
 use Prim.Native.Nat.{ℕ, _≤_, _<_}
-use lib.ListN.{length, take}
+use lib.ListN.{length}
 use Rattle.theory.specs.Lists.{Permutation}
 use Rattle.theory.specs.Polynomial.{reduced, roots}
 use Rattle.theory.specs.Degree.{allZero, degreeBound}
 use Rattle.theory.specs.Class.{Class, class, Member}
 use Rattle.theory.specs.Rival.{Rival}
-use Rattle.theory.specs.Stepping.{Answer, row, claimed}
-use Rattle.theory.specs.ThirdDemand.{slot}
+use Rattle.theory.specs.Stepping.{Answer, answersFrom, claimed}
+use Rattle.theory.specs.ClassList.{slot}
 use Rattle.classes.specs.Next.{nextOf, answerOf}
-use Rattle.stepping.specs.Call.{Input, residuesLeft, levelsLeft, firstSlots}
+use Rattle.stepping.specs.Call.{Input, firstResidues, firstLevels, firstSlots}
 
 -- next, called with "the solver's p and n and the first k slots of residues and levels as the solver left them": next's contract
 unfoldable pub nextCall : Input → ℕ → ℕ → Answer
-unfolding residuesLeft levelsLeft
-nextCall x k point = answerOf (nextOf (x .p) (x .n) (take k (residuesLeft x)) (take k (levelsLeft x)) point)
+nextCall x k point = answerOf (nextOf (x .p) (x .n) (firstResidues x k) (firstLevels x k) point)
 
 pub record Demand (x : Input) (k : ℕ) : Type 0 where
   pub slots : length (firstSlots x k) ≡ k
@@ -35,12 +34,12 @@ pub record Demand (x : Input) (k : ℕ) : Type 0 where
   -- "If all are zero, everything is a root": the one class of everything
   pub everything : allZero (reduced (x .f) (x .p) (x .n)) ≡ true → firstSlots x k ≡ class 0 0 ∷ []
   -- "This is a single claim about the whole row of calls, for every f, p and n accepted and every q and m"
-  pub stepping : (q m : ℕ) → row (nextCall x k) q m ≡ claimed (roots (x .f) (x .p) (x .n)) (x .p) (x .n) q m
+  pub stepping : (q m : ℕ) → answersFrom (nextCall x k) q m ≡ claimed (roots (x .f) (x .p) (x .n)) (x .p) (x .n) q m
 
 -- "Two accepted calls of the solver with the same p and n, whatever their coefficients, whose root sets are equal return the same k and the
 -- same root count and put the same residues and levels into their first k slots, slot by slot"
 pub record Same (x y : Input) (k count k′ count′ : ℕ) : Type 0 where
   pub same-k : k ≡ k′
   pub same-count : count ≡ count′
-  pub same-residues : take k (residuesLeft x) ≡ take k′ (residuesLeft y)
-  pub same-levels : take k (levelsLeft x) ≡ take k′ (levelsLeft y)
+  pub same-residues : firstResidues x k ≡ firstResidues y k′
+  pub same-levels : firstLevels x k ≡ firstLevels y k′

@@ -1,4 +1,5 @@
--- The third demand over the solver and next together, as statements about their contracts' definitions.
+-- 01's "Rival lists and stepping" over the contracts of the solver and of next.
 pub mod Call
 pub mod Demand
-pub mod Row
+pub mod Encoded
+pub mod inner

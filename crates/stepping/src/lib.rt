@@ -4,11 +4,13 @@ ghost use mathlib.Core.List.{map};
 ghost use Prim.Native.Nat.{ℕ, _^_};
 ghost use lib.ListN.{length};
 ghost use Rattle.theory.specs.Polynomial.{roots as rootsOf};
-ghost use Rattle.theory.specs.Stepping.{row, following, claimed};
-ghost use Rattle.solver.specs.Solve.{solverVerdict, solvedOf, residuesAfter, levelsAfter, marksAfter};
+ghost use Rattle.theory.specs.Stepping.{answersFrom, following, claimed};
+ghost use Rattle.refusal.specs.Rules.{filled};
+ghost use Rattle.solver.specs.Solve.{lists as listsOf, solverVerdict, solvedOf, listsAfter};
 ghost use Rattle.classes.specs.Next.{nextOf, answerOf};
-ghost use Rattle.classes.proofs.Checks.{Checked};
-ghost use Rattle.stepping.specs.Row.{encode, rowAfter, Reached};
+ghost use Rattle.classes.specs.inner.Usable.{UsableList};
+ghost use Rattle.stepping.specs.Encoded.{encode};
+ghost use Rattle.stepping.specs.inner.Reached.{Reached};
 use classes::Next;
 use solver::Solved;
 
@@ -26,16 +28,14 @@ pub fn step_through(
     answers: &mut [u64],
 ) -> Solved
     ensures answer { λ r. ⌜ r ≡ solvedOf (now (coefficients .entry)) p n
-        (length (now (residues .entry))) (length (now (levels .entry))) (length (now (marks .entry))) ⌝ }
-    ensures residues { λ _. ⌜ now (residues .exit)
-        ≡ residuesAfter (now (coefficients .entry)) p n (now (residues .entry)) (now (levels .entry)) (now (marks .entry)) ⌝ }
-    ensures levels { λ _. ⌜ now (levels .exit)
-        ≡ levelsAfter (now (coefficients .entry)) p n (now (residues .entry)) (now (levels .entry)) (now (marks .entry)) ⌝ }
-    ensures marks { λ _. ⌜ now (marks .exit)
-        ≡ marksAfter (now (coefficients .entry)) p n (now (residues .entry)) (now (levels .entry)) (now (marks .entry)) ⌝ }
+        (listsOf (now (residues .entry)) (now (levels .entry)) (now (marks .entry))) ⌝ }
+    ensures lists { λ _. ⌜ listsOf (now (residues .exit)) (now (levels .exit)) (now (marks .exit))
+        ≡ listsAfter (now (coefficients .entry)) p n
+        (listsOf (now (residues .entry)) (now (levels .entry)) (now (marks .entry))) ⌝ }
     ensures answers { λ _. ⌜ now (answers .exit)
-        ≡ rowAfter (solverVerdict (now (coefficients .entry)) p n (length (now (residues .entry))) (length (now (levels .entry)))
-        (length (now (marks .entry)))) (claimed (rootsOf (now (coefficients .entry)) p n) p n start (length (now (answers .entry))))
+        ≡ filled (solverVerdict (now (coefficients .entry)) p n
+        (listsOf (now (residues .entry)) (now (levels .entry)) (now (marks .entry))))
+        (map encode (claimed (rootsOf (now (coefficients .entry)) p n) p n start (length (now (answers .entry)))))
         (now (answers .entry)) ⌝ }
 {
     match solver::solve(coefficients, p, n, residues, levels, marks) {
@@ -56,9 +56,9 @@ pub fn step_through(
 
 // The calls of next.
 fn ask(p: u32, n: u32, residues: &[u32], levels: &[u8], start: u32, answers: &mut [u64])
-    requires { ⌜ Checked p n (now residues) (now levels) (p ^ n) ⌝ }
+    requires { ⌜ UsableList p n (now residues) (now levels) (p ^ n) ⌝ }
     ensures { λ _. ⌜ now (answers .exit)
-        ≡ map encode (row (λ (q : ℕ). answerOf (nextOf p n (now (residues .entry)) (now (levels .entry)) q)) start
+        ≡ map encode (answersFrom (λ (q : ℕ). answerOf (nextOf p n (now (residues .entry)) (now (levels .entry)) q)) start
         (length (now (answers .entry)))) ⌝ }
 {
     let mut point = start;

@@ -1,6 +1,6 @@
 -- A text that reads as a problem is the input text of that problem.
 use mathlib.Core.Path.{_≡_, refl, sym, ap, _∙_}
-use mathlib.Core.Bool.{Bool, true, false, not}
+use mathlib.Core.Bool.{not}
 use mathlib.Core.List.{List, [], _∷_, _++_, append-assoc, append-nil}
 use mathlib.Core.Option.{Option, none, some, Option·getD}
 use Prim.Native.Nat.{ℕ, zero, suc, _+_, _-_, _*_, _<_}
@@ -11,10 +11,9 @@ use lib.IntN.{ℤ, pos}
 use lib.ListN.{length, getD, take, drop, replicate, drop-of-length-le}
 use lib.Seq.{take-at}
 use Rattle.columns.specs.Column.{column, signedColumn}
-use Rattle.refusal.specs.declared.Refusal.{Refusal}
 use Rattle.refusal.specs.declared.Refusal.the-variants.{Form, NoCoefficient, TooManyCoefficients}
-use Rattle.refusal.specs.Rules.{Verdict, passes, refuses, rule, tried, rule2, rule3}
-use Rattle.refusal.proofs.Rules.{tried-first}
+use Rattle.refusal.specs.Rules.{Verdict, passes, refuses, tried, rule2, rule3}
+use Rattle.refusal.proofs.Rules.{rule-passes, tried-first}
 use Rattle.text.specs.declared.Read.the-variants.{Given, Refused}
 use Rattle.text.specs.declared.Problem.{Problem}
 use Rattle.text.specs.Text.{unsignedValue, signedValue}
@@ -26,10 +25,6 @@ use Rattle.text.proofs.Rows.{coefficients-length}
 use Rattle.text.proofs.Input.{AllInRange, Readable, input-append}
 
 -- Rules that pass
-
-rule-passes : (b : Bool) (r : Refusal) → rule b r ≡ passes → b ≡ false
-rule-passes true r e = let z : _≡_ {A = ℕ} 0 1 = cc in absurd (omega arith)
-rule-passes false r e = refl
 
 value-is : {A : Type 0} (o : Option A) (d : A) (place : ℕ) → hasValue o place ≡ passes → o ≡ some (Option·getD o d)
 value-is (some x) d place e = refl
@@ -147,7 +142,7 @@ module _ (text : List ℕ) where
 
 -- What an answer says
 
-module _ (text : List ℕ) (at : ℕ) (P : Problem) (p n count end : ℕ) (given : P .answer ≡ Given p n count end) where
+module _ (text : List ℕ) (at : ℕ) (P : Problem) (p n count end : ℕ) (given : P .read ≡ Given p n count end) where
   record Parts (v : Verdict) : Type 0 where
     passed : v ≡ passes
     p-is : pOf text at ≡ p
@@ -158,7 +153,7 @@ module _ (text : List ℕ) (at : ℕ) (P : Problem) (p n count end : ℕ) (given
   parts : (v : Verdict) → P ≡ problemBy v text at → Parts v
   unfolding problemBy
   parts passes e =
-      let f : P .answer ≡ Given (pOf text at) (nOf text at) (countOf text at) (endAt text at) = ap (λ (Q : Problem). Q .answer) e in
+      let f : P .read ≡ Given (pOf text at) (nOf text at) (countOf text at) (endAt text at) = ap (λ (Q : Problem). Q .read) e in
       let k : countOf text at ≡ count = cc in
       let cs = coefficientsAt text (at + 34) (countOf text at) in
       let m : length cs ≡ count = coefficients-length text (at + 34) (countOf text at) ∙ k in
@@ -171,12 +166,12 @@ module _ (text : List ℕ) (at : ℕ) (P : Problem) (p n count end : ℕ) (given
             count m);
       }
   parts (refuses r) e =
-      let f : P .answer ≡ Refused r = ap (λ (Q : Problem). Q .answer) e in
+      let f : P .read ≡ Refused r = ap (λ (Q : Problem). Q .read) e in
       let z : _≡_ {A = ℕ} 0 1 = cc in
       absurd (omega arith)
 
 -- what is read at a place is the input text of the problem
-pub given-at-is-input : (text : List ℕ) (at p n count end : ℕ) → problemAt text at .answer ≡ Given p n count end
+pub given-at-is-input : (text : List ℕ) (at p n count end : ℕ) → problemAt text at .read ≡ Given p n count end
     → (drop at text ≡ inputText p n (take count (problemAt text at .coefficients)) ++ drop end text)
     × Readable p n (take count (problemAt text at .coefficients))
 unfolding problemAt
@@ -190,7 +185,7 @@ input-same : (p q n m : ℕ) (cs ds : List ℤ) → p ≡ q → n ≡ m → cs �
 input-same p q n m cs ds e f g = rw (e, f, g)
 
 -- a text that reads as a problem is the input text of that problem
-pub given-is-input : (text : List ℕ) (p n count end : ℕ) → problemOf text .answer ≡ Given p n count end
+pub given-is-input : (text : List ℕ) (p n count end : ℕ) → problemOf text .read ≡ Given p n count end
     → (text ≡ inputText p n (take count (problemOf text .coefficients))) × Readable p n (take count (problemOf text .coefficients))
 unfolding problemOf
 given-is-input text p n count end given =

@@ -8,7 +8,8 @@ use borrow.Author.Tests.{ne-eqb, le-leb, lt-leb, leb-false}
 use lib.Dec.{leb}
 use Rattle.text.specs.declared.column.Part.{Part}
 use Rattle.text.specs.declared.column.Part.the-variants.{Blanks, Minus, Number, Fault}
-use Rattle.text.specs.Reading.{afterBlank, afterMinus, afterDigit, step, scan, capped}
+use Rattle.text.specs.Reading.{afterBlank, afterMinus, afterDigit, step, scan}
+use Rattle.text.specs.inner.Capped.{capped}
 use Rattle.text.proofs.Steps.{Kind, a-blank, a-minus, a-digit, a-fault, kind, step-blank, step-minus, step-of-digit, scan-next}
 
 pub capped-small : (m : Bool) (x : ℕ) → x ≤ 9223372036854775808 → capped (Number m x) ≡ Number m x

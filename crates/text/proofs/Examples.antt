@@ -19,13 +19,13 @@ example =
     blanks 10 ++ 50 ∷ (blanks 10 ++ 52 ∷ (blanks 10 ++ 51 ∷ 10 ∷ (
     blanks 18 ++ 45 ∷ 49 ∷ 10 ∷ (blanks 19 ++ 48 ∷ 10 ∷ (blanks 19 ++ 49 ∷ 10 ∷ [])))))
 
-example-is-read : (problemOf example .answer ≡ Given 2 4 3 97) × (problemOf example .coefficients ≡ rowOf (negsuc 0 ∷ pos 0 ∷ pos 1 ∷ []))
+example-is-read : (problemOf example .read ≡ Given 2 4 3 97) × (problemOf example .coefficients ≡ rowOf (negsuc 0 ∷ pos 0 ∷ pos 1 ∷ []))
 unfolding blanks example problemOf
 example-is-read = (refl, refl)
 
 -- a byte past the end, no byte at all, a line end that is missing
-example-is-refused : (problemOf (example ++ 32 ∷ []) .answer ≡ Refused (Form 97)) × (problemOf [] .answer ≡ Refused (Form 0))
-    × (problemOf (blanks 10 ++ 50 ∷ (blanks 10 ++ 52 ∷ (blanks 10 ++ 51 ∷ []))) .answer ≡ Refused (Form 33))
+example-is-refused : (problemOf (example ++ 32 ∷ []) .read ≡ Refused (Form 97)) × (problemOf [] .read ≡ Refused (Form 0))
+    × (problemOf (blanks 10 ++ 50 ∷ (blanks 10 ++ 52 ∷ (blanks 10 ++ 51 ∷ []))) .read ≡ Refused (Form 33))
 unfolding blanks example problemOf
 example-is-refused = (refl, refl, refl)
 

@@ -149,38 +149,38 @@ module _ (text : List ℕ) (at : ℕ) where
 -- The whole text
 
 module _ (text : List ℕ) (P : Problem) (same : P ≡ problemAt text 0) where
-  answer-by : (v : Verdict) → verdictAt text 0 ≡ v → P ≡ problemBy v text 0
+  problem-by : (v : Verdict) → verdictAt text 0 ≡ v → P ≡ problemBy v text 0
   unfolding problemAt
-  answer-by v e = same ∙ ap (λ (w : Verdict). problemBy w text 0) e
+  problem-by v e = same ∙ ap (λ (w : Verdict). problemBy w text 0) e
 
   whole-by : (v : Verdict) → tried (verdictAt text 0 ∷ endsText text (endAt text 0) ∷ []) ≡ v → problemBy v text 0 ≡ problemOf text
   unfolding problemOf
   whole-by v e = rw e
 
-  given-answer : verdictAt text 0 ≡ passes → P .answer ≡ Given (pOf text 0) (nOf text 0) (countOf text 0) (endAt text 0)
+  given-read : verdictAt text 0 ≡ passes → P .read ≡ Given (pOf text 0) (nOf text 0) (countOf text 0) (endAt text 0)
   unfolding problemBy
-  given-answer e = ap (λ (Q : Problem). Q .answer) (answer-by passes e)
+  given-read e = ap (λ (Q : Problem). Q .read) (problem-by passes e)
 
-  refused-answer : (r : Refusal) → verdictAt text 0 ≡ refuses r → P .answer ≡ Refused r
+  refused-read : (r : Refusal) → verdictAt text 0 ≡ refuses r → P .read ≡ Refused r
   unfolding problemBy
-  refused-answer r e = ap (λ (Q : Problem). Q .answer) (answer-by (refuses r) e)
+  refused-read r e = ap (λ (Q : Problem). Q .read) (problem-by (refuses r) e)
 
-  pub whole-refused : (r : Refusal) → P .answer ≡ Refused r → P ≡ problemOf text
+  pub whole-refused : (r : Refusal) → P .read ≡ Refused r → P ≡ problemOf text
   whole-refused r e = go (verdictAt text 0) refl
     where
       go : (v : Verdict) → verdictAt text 0 ≡ v → P ≡ problemOf text
-      go passes q = let z : _≡_ {A = ℕ} 0 1 = cc (given-answer q) in absurd (omega arith)
-      go (refuses s) q = answer-by (refuses s) q ∙ whole-by (refuses s) (rw q)
+      go passes q = let z : _≡_ {A = ℕ} 0 1 = cc (given-read q) in absurd (omega arith)
+      go (refuses s) q = problem-by (refuses s) q ∙ whole-by (refuses s) (rw q)
 
   -- the place after the problem, where it is given
-  end-is : (p n count end : ℕ) → P .answer ≡ Given p n count end → (verdictAt text 0 ≡ passes) × (end ≡ endAt text 0)
+  end-is : (p n count end : ℕ) → P .read ≡ Given p n count end → (verdictAt text 0 ≡ passes) × (end ≡ endAt text 0)
   end-is p n count end e = go (verdictAt text 0) refl
     where
       go : (v : Verdict) → verdictAt text 0 ≡ v → (verdictAt text 0 ≡ passes) × (end ≡ endAt text 0)
-      go passes q = (q, cc (given-answer q))
-      go (refuses s) q = let z : _≡_ {A = ℕ} 0 1 = cc (refused-answer s q) in absurd (omega arith)
+      go passes q = (q, cc (given-read q))
+      go (refuses s) q = let z : _≡_ {A = ℕ} 0 1 = cc (refused-read s q) in absurd (omega arith)
 
-  pub whole-longer : (p n count end : ℕ) → P .answer ≡ Given p n count end → end < length text
+  pub whole-longer : (p n count end : ℕ) → P .read ≡ Given p n count end → end < length text
       → refusedProblem (Form end) ≡ problemOf text
   unfolding problemBy
   whole-longer p n count end e h =
@@ -189,8 +189,8 @@ module _ (text : List ℕ) (P : Problem) (same : P ≡ problemAt text 0) where
       ap (λ (k : ℕ). refusedProblem (Form k)) (d .1)
       ∙ whole-by (refuses (Form (endAt text 0))) (rw (d .0, lt-ltb (endAt text 0) (length text) l))
 
-  pub whole-given : (p n count end : ℕ) → P .answer ≡ Given p n count end → length text ≤ end → P ≡ problemOf text
+  pub whole-given : (p n count end : ℕ) → P .read ≡ Given p n count end → length text ≤ end → P ≡ problemOf text
   whole-given p n count end e h =
       let d = end-is p n count end e in
       let l : length text ≤ endAt text 0 = omega (arith, d .1) in
-      answer-by passes (d .0) ∙ whole-by passes (rw (d .0, le-ltb (endAt text 0) (length text) l))
+      problem-by passes (d .0) ∙ whole-by passes (rw (d .0, le-ltb (endAt text 0) (length text) l))

@@ -72,7 +72,7 @@ pub record Readable (p n : ℕ) (cs : List ℤ) : Type 0 where
   pub in-range : AllInRange cs
 
 abbrev pub problem : ℕ → ℕ → List ℤ → ℕ → Problem
-problem p n cs end = record { answer = Given p n (length cs) end; coefficients = rowOf cs }
+problem p n cs end = record { read = Given p n (length cs) end; coefficients = rowOf cs }
 
 module _ (text : List ℕ) (at p n : ℕ) (cs : List ℤ) (rest : List ℕ) (U : Readable p n cs) (here : drop at text ≡ inputText p n cs ++ rest)
   where

@@ -10,4 +10,5 @@ pub mod ReadBack
 pub mod Placed
 pub mod Input
 pub mod Accepted
+pub mod Longest
 pub mod Examples

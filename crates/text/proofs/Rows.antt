@@ -43,15 +43,15 @@ module _ (text : List ℕ) (place c : ℕ) where
 
 -- The problem by the verdict
 
-pub problem-refused : (v : Verdict) (r : Refusal) (answer : Read) (row : List ℤ) → v ≡ refuses r
-    → refusedProblem r ≡ problemOr v answer row
-problem-refused v r answer row e = rw e
+pub problem-refused : (v : Verdict) (r : Refusal) (read : Read) (row : List ℤ) → v ≡ refuses r
+    → refusedProblem r ≡ problemOr v read row
+problem-refused v r read row e = rw e
 
 abbrev problem : Read → List ℤ → Problem
-problem answer row = record { answer = answer; coefficients = row }
+problem read row = record { read = read; coefficients = row }
 
-problem-given : (v : Verdict) (answer : Read) (row : List ℤ) → v ≡ passes → problem answer row ≡ problemOr v answer row
-problem-given v answer row e = rw e
+problem-given : (v : Verdict) (read : Read) (row : List ℤ) → v ≡ passes → problem read row ≡ problemOr v read row
+problem-given v read row e = rw e
 
 -- The coefficients
 
@@ -166,7 +166,7 @@ module _ (text : List ℕ) (start place count i : ℕ) (row : List ℤ) (R : Rea
       let k : 65 - i ≡ 65 - length (coefficientsAt text start count) = omega (arith, coefficients-length text start count) in
       R .filled ∙ ap₂ (λ (j m : ℕ). coefficientsAt text start j ++ replicate m (pos 0)) e k
 
-  pub reading-problem : (p n : ℕ) → i ≡ count → record { answer = Given p n count place; coefficients = row }
+  pub reading-problem : (p n : ℕ) → i ≡ count → record { read = Given p n count place; coefficients = row }
       ≡ problemOr (tried (coefficientRules text start count)) (Given p n count (start + 21 * count))
       (rowOf (coefficientsAt text start count))
   reading-problem p n e =

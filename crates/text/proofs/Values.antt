@@ -18,7 +18,8 @@ use denote.Enum.Declared
 use Rattle.text.proofs.column.Part.{the-type}
 use Rattle.text.specs.declared.column.Part.{Part}
 use Rattle.text.specs.declared.column.Part.the-variants.{Blanks, Minus, Number, Fault}
-use Rattle.text.specs.Reading.{scan, capped, unsignedOf, signedOf}
+use Rattle.text.specs.Reading.{scan, unsignedOf, signedOf}
+use Rattle.text.specs.inner.Capped.{capped}
 use Rattle.text.specs.declared.Unsigned.the-variants as Unsigned
 use Rattle.text.specs.declared.Signed.the-variants as Signed
 use Rattle.text.specs.Text.{columnAt, unsignedValue, unsignedAt, signedValue, signedAt}

@@ -78,12 +78,12 @@ endAt text at = at + 34 + 21 * countOf text at
 
 -- a refused problem: its row is all zero
 abbrev pub refusedProblem : Refusal → Problem
-refusedProblem r = record { answer = Refused r; coefficients = replicate 65 (pos 0) }
+refusedProblem r = record { read = Refused r; coefficients = replicate 65 (pos 0) }
 
 -- a problem where the verdict passes it
 abbrev pub problemOr : Verdict → Read → List ℤ → Problem
-problemOr passes answer row = record { answer = answer; coefficients = row }
-problemOr (refuses r) answer row = refusedProblem r
+problemOr passes read row = record { read = read; coefficients = row }
+problemOr (refuses r) read row = refusedProblem r
 
 -- "The reader gives p, n, c and a row of 65 coefficients", and the place after them
 unfoldable pub problemBy : Verdict → List ℕ → ℕ → Problem

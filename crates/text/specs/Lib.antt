@@ -3,3 +3,4 @@ pub mod Reading
 pub mod Text
 pub mod Form
 pub mod Input
+pub mod inner

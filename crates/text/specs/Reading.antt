@@ -43,13 +43,6 @@ unfoldable pub scan : List ℕ → Part
 unfolding step
 scan bytes = foldl step Blanks bytes
 
--- the same with sizes above 2^63 as faults: as much as 64 bits keep of it, and more than any type's range
-abbrev pub capped : Part → Part
-capped Blanks = Blanks
-capped Minus = Minus
-capped (Number m x) = cond (leb x 9223372036854775808) (Number m x) Fault
-capped Fault = Fault
-
 -- "unsigned, up to 4,294,967,295"
 abbrev pub unsignedOf : Part → Option ℕ
 unsignedOf Blanks = none

@@ -2,7 +2,8 @@
 ghost use mathlib.Core.Path.{_≡_};
 ghost use Prim.Native.Nat.{_≤_};
 ghost use Rattle.text.specs.Text.{columnAt};
-ghost use Rattle.text.specs.Reading.{step as stepOf, afterBlank, afterMinus, afterDigit, scan as scanOf, capped};
+ghost use Rattle.text.specs.Reading.{step as stepOf, afterBlank, afterMinus, afterDigit, scan as scanOf};
+ghost use Rattle.text.specs.inner.Capped.{capped};
 
 // What the bytes so far are.
 pub(crate) enum Part {

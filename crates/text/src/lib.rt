@@ -105,7 +105,7 @@ pub enum Read {
 }
 
 pub struct Problem {
-    pub answer: Read,
+    pub read: Read,
     // zero after the last that was read, and all zero where the problem is refused
     pub coefficients: [i64; 65],
 }
@@ -115,7 +115,7 @@ fn refused(refusal: Refusal) -> Problem
     ensures { λ r. ⌜ r ≡ refusedProblem refusal ⌝ }
 {
     Problem {
-        answer: Read::Refused(refusal),
+        read: Read::Refused(refusal),
         coefficients: [0i64; 65],
     }
 }
@@ -141,7 +141,7 @@ fn read_coefficients(text: &[u8], start: Cursor, p: u32, n: u32, count: usize) -
         i += 1;
     }
     Problem {
-        answer: Read::Given {
+        read: Read::Given {
             p,
             n,
             count,
@@ -183,13 +183,13 @@ pub fn read_problem(text: &[u8]) -> Problem
     ensures { λ r. ⌜ r ≡ problemOf (now (text .entry)) ⌝ }
 {
     let problem = read_problem_at(text, 0);
-    let answer = problem.answer;
+    let read = problem.read;
     let Read::Given {
         p: _,
         n: _,
         count: _,
         end,
-    } = answer
+    } = read
     else {
         return problem;
     };

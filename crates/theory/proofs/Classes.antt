@@ -8,7 +8,9 @@ pub mod Rising
 pub mod Rival
 pub mod Agree
 pub mod Concat
+pub mod Entries
 pub mod Tree
+pub mod Branch
 pub mod Members
 pub mod Sum
 pub mod Share

@@ -3,9 +3,10 @@ use mathlib.Core.Path.{_≡_, refl, sym, ap, _∙_}
 use mathlib.Core.Bool.{Bool, true, false}
 use mathlib.Core.List.{List, append-nil, [], _∷_, _++_}
 use Prim.Native.Nat.{_-_, ℕ, zero, suc, _+_, _≤_, _<_}
-use native.Mathlib.Nat.{zero-add}
+use native.Mathlib.Nat.{zero-add, sub-zero}
 use native.Mathlib.Omega.{arith}
 use lib.ListN.{getD, take, length-append, length}
+use lib.Seq.{getD-take, length-take-le, take-take}
 use Rattle.theory.proofs.Lists.Index.{in-at}
 use Rattle.theory.specs.Range.{passing}
 use Rattle.theory.proofs.Range.{passing-on, passing-off, passing-append, passing-sound}
@@ -67,6 +68,20 @@ passing-prefix f (suc k) i j h = go (passing-prefix f k (suc i)) (f i) refl
     go ih false e =
         let (n, w) = step ih j (omega (arith, ap length (passing-off f k i e))) in
         rw (passing-off f k i e) (w ∙ sym (passing-off f (getD rest j 0 - suc i) i e) ∙ ap (λ (x : ℕ). passing f x i) n)
+
+-- the same of the first entries of a longer list
+pub taken-prefix : (f : ℕ → Bool) (k n i : ℕ) (l : List ℕ) → take n l ≡ passing f k 0 → n ≤ length l → i < n
+    → (getD l i 0 < k) × (take i l ≡ passing f (getD l i 0) 0)
+taken-prefix f k n i l e fits h =
+    let long : length (passing f k 0) ≡ n = sym (ap length e) ∙ length-take-le n l fits in
+    let entry : getD (passing f k 0) i 0 ≡ getD l i 0 = sym (ap (λ (xs : List ℕ). getD xs i 0) e) ∙ getD-take n l i 0 h in
+    let inside = passing-sound f k 0 (getD (passing f k 0) i 0) (in-at (passing f k 0) i 0 (omega arith)) in (
+      omega (arith, inside .high),
+      sym (take-take i n l (omega arith))
+          ∙ ap (take i) e
+          ∙ passing-prefix f k 0 i (omega arith)
+          ∙ ap (λ (x : ℕ). passing f x 0) (sub-zero (getD (passing f k 0) i 0) ∙ entry),
+    )
 
 -- the list has k entries exactly if all k numbers pass
 pub passing-full : (f : ℕ → Bool) (k : ℕ) → length (passing f k 0) ≡ k → (c : ℕ) → c < k → f c ≡ true

@@ -38,6 +38,10 @@ unfolding allBelow
 all-intro f zero h = refl
 all-intro f (suc k) h = all-on f k (h k (omega arith)) ∙ all-intro f k (λ i l. h i (omega arith))
 
+pub all-one : (f : ℕ → Bool) → allBelow f 1 ≡ f 0
+all-one f = same-test (allBelow f 1) (f 0) (λ e. all-elim f 1 0 e (omega arith)) (λ e. all-intro f 1 (λ i h.
+    let z : i ≡ 0 = omega arith in rw z e))
+
 pub all-same : (f g : ℕ → Bool) (k : ℕ) → ((i : ℕ) → i < k → f i ≡ g i) → allBelow f k ≡ allBelow g k
 all-same f g k h =
     same-test (allBelow f k) (allBelow g k)

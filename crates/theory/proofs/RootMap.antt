@@ -86,7 +86,7 @@ bytes-bit b h k r l =
 
 -- The map
 
-pub map-covers : (p n r : ℕ) → r < p ^ n → r < 8 * mapLength p n
+pub map-covers : (p n r : ℕ) → r < p ^ n → r < 8 * mapLength (p ^ n)
 unfolding mapLength
 map-covers p n r h = omega arith
 
@@ -94,14 +94,15 @@ map-covers p n r h = omega arith
 pub map-bit : (p n : ℕ) (l : List Class) (r : ℕ) → r < p ^ n → eqb (bit (rootMap p n l) r) 1 ≡ members p l r
 unfolding rootMap
 map-bit p n l r h =
-    ap (λ (x : ℕ). eqb x 1) (bytes-bit (bitOf (members p l) (p ^ n)) (bits-of (members p l) (p ^ n)) (mapLength p n) r (map-covers p n r h))
+    ap (λ (x : ℕ). eqb x 1) (bytes-bit (bitOf (members p l) (p ^ n)) (bits-of (members p l) (p ^ n)) (mapLength (p ^ n)) r
+    (map-covers p n r h))
     ∙ bit-in (members p l) (p ^ n) r h
 
 -- "spare high bits of the last byte are zero"
-pub map-spare : (p n : ℕ) (l : List Class) (r : ℕ) → p ^ n ≤ r → r < 8 * mapLength p n → bit (rootMap p n l) r ≡ 0
+pub map-spare : (p n : ℕ) (l : List Class) (r : ℕ) → p ^ n ≤ r → r < 8 * mapLength (p ^ n) → bit (rootMap p n l) r ≡ 0
 unfolding rootMap
 map-spare p n l r h b =
-    bytes-bit (bitOf (members p l) (p ^ n)) (bits-of (members p l) (p ^ n)) (mapLength p n) r b ∙ bit-spare (members p l) (p ^ n) r h
+    bytes-bit (bitOf (members p l) (p ^ n)) (bits-of (members p l) (p ^ n)) (mapLength (p ^ n)) r b ∙ bit-spare (members p l) (p ^ n) r h
 
 -- maps that agree in their first pⁿ bits have as many ones
 pub ones-agree : (p n : ℕ) (x y : List ℕ) → ((r : ℕ) → r < p ^ n → bit x r ≡ bit y r) → ones p n x ≡ ones p n y

@@ -12,7 +12,7 @@ use lib.ListN.{length, take, replicate}
 use Rattle.theory.specs.Lists.{here}
 use Rattle.theory.specs.Range.{passing}
 use Rattle.theory.specs.ClassList.{from}
-use Rattle.theory.specs.Stepping.{Answer, root, none, refused, firstOf, nextIn, following, row, later, claimed}
+use Rattle.theory.specs.Stepping.{Answer, root, none, refused, firstOf, nextIn, following, answersFrom, later, claimed}
 use Rattle.theory.proofs.Tests.{not-holding}
 use Rattle.theory.proofs.Lists.Names.{in-nil}
 use Rattle.theory.proofs.Range.{passing-on, passing-off, passing-sound, passing-complete}
@@ -60,24 +60,24 @@ later-none : (S : ℕ → Bool) (p n q : ℕ) → q < p ^ n → S (p ^ n - 1) �
 later-none S p n q h e = later-below S p n q h ∙ rw e
 
 module _ (S : ℕ → Bool) (p n : ℕ) where
-  abbrev Row : ℕ → ℕ → List Answer
-  Row q m = row (nextIn S p n) q m
+  abbrev Answers : ℕ → ℕ → List Answer
+  Answers q m = answersFrom (nextIn S p n) q m
 
   -- past pⁿ nothing is left, and each call is refused
   from-past : (q : ℕ) → p ^ n ≤ q → from S p n q ≡ []
   unfolding from passing
   from-past q h = let e : p ^ n - q ≡ 0 = omega arith in rw e
 
-  row-past : (q : ℕ) → p ^ n ≤ q → (m : ℕ) → Row q m ≡ replicate m (refused 8 0)
-  unfolding row following
-  row-past q h zero = refl
-  row-past q h (suc m) = rw (next-refused S p n q h) (ap (λ xs. refused 8 0 ∷ xs) (row-past q h m))
+  answers-past : (q : ℕ) → p ^ n ≤ q → (m : ℕ) → Answers q m ≡ replicate m (refused 8 0)
+  unfolding answersFrom following
+  answers-past q h zero = refl
+  answers-past q h (suc m) = rw (next-refused S p n q h) (ap (λ xs. refused 8 0 ∷ xs) (answers-past q h m))
 
   -- where no element is left, each answer is none, and pⁿ − 1 is not in S
-  row-none : (q : ℕ) → q < p ^ n → from S p n q ≡ [] → (m : ℕ) → Row q m ≡ replicate m none
-  unfolding row following firstOf
-  row-none q h e zero = refl
-  row-none q h e (suc m) = rw (next-first S p n q h, e) (ap (λ xs. none ∷ xs) (row-none q h e m))
+  answers-none : (q : ℕ) → q < p ^ n → from S p n q ≡ [] → (m : ℕ) → Answers q m ≡ replicate m none
+  unfolding answersFrom following firstOf
+  answers-none q h e zero = refl
+  answers-none q h e (suc m) = rw (next-first S p n q h, e) (ap (λ xs. none ∷ xs) (answers-none q h e m))
 
   last-not : (q : ℕ) → q < p ^ n → from S p n q ≡ [] → S (p ^ n - 1) ≡ false
   unfolding from
@@ -116,38 +116,38 @@ module _ (S : ℕ → Bool) (p n : ℕ) where
   Claim rs m after = map root (take m rs) ++ replicate (m - length rs) after
 
   -- one call that gives a root
-  row-step : (q r m : ℕ) (rs : List ℕ) (after : Answer) → nextIn S p n q ≡ firstOf (r ∷ rs) → Row (r + 1) m ≡ Claim rs m after
-      → Row q (suc m) ≡ Claim (r ∷ rs) (suc m) after
-  unfolding row following firstOf
-  row-step q r m rs after a w = rw (a, suc-sub-suc m (length rs)) (ap (λ xs. root r ∷ xs) w)
+  answers-step : (q r m : ℕ) (rs : List ℕ) (after : Answer) → nextIn S p n q ≡ firstOf (r ∷ rs) → Answers (r + 1) m ≡ Claim rs m after
+      → Answers q (suc m) ≡ Claim (r ∷ rs) (suc m) after
+  unfolding answersFrom following firstOf
+  answers-step q r m rs after a w = rw (a, suc-sub-suc m (length rs)) (ap (λ xs. root r ∷ xs) w)
 
   -- the whole row, by the elements that are left
-  row-is : (rs : List ℕ) (q m : ℕ) → from S p n q ≡ rs → Row q m ≡ Claim rs m (later S p n q)
-  unfolding row
-  row-is [] q m e = go (decLt q (p ^ n))
+  answers-are : (rs : List ℕ) (q m : ℕ) → from S p n q ≡ rs → Answers q m ≡ Claim rs m (later S p n q)
+  unfolding answersFrom
+  answers-are [] q m e = go (decLt q (p ^ n))
     where
-      left : (after : Answer) → Row q m ≡ replicate m after → Row q m ≡ Claim [] m after
+      left : (after : Answer) → Answers q m ≡ replicate m after → Answers q m ≡ Claim [] m after
       left after w = w ∙ empty m
         where
           empty : (k : ℕ) → replicate k after ≡ map root (take k []) ++ replicate (k - 0) after
           empty zero = refl
           empty (suc k) = rw (sub-zero (suc k))
 
-      go : Dec (q < p ^ n) → Row q m ≡ Claim [] m (later S p n q)
-      go (yes h) = rw (later-none S p n q h (last-not q h e)) (left none (row-none q h e m))
-      go (no h) = rw (later-refused S p n q (omega arith)) (left (refused 8 0) (row-past q (omega arith) m))
-  row-is (r ∷ rs) q zero e = rw (zero-sub (length (r ∷ rs)))
-  row-is (r ∷ rs) q (suc m) e = go (row-is rs (r + 1) m) (decLt q (p ^ n))
+      go : Dec (q < p ^ n) → Answers q m ≡ Claim [] m (later S p n q)
+      go (yes h) = rw (later-none S p n q h (last-not q h e)) (left none (answers-none q h e m))
+      go (no h) = rw (later-refused S p n q (omega arith)) (left (refused 8 0) (answers-past q (omega arith) m))
+  answers-are (r ∷ rs) q zero e = rw (zero-sub (length (r ∷ rs)))
+  answers-are (r ∷ rs) q (suc m) e = go (answers-are rs (r + 1) m) (decLt q (p ^ n))
     where
-      go : (from S p n (r + 1) ≡ rs → Row (r + 1) m ≡ Claim rs m (later S p n (r + 1))) → Dec (q < p ^ n)
-          → Row q (suc m) ≡ Claim (r ∷ rs) (suc m) (later S p n q)
+      go : (from S p n (r + 1) ≡ rs → Answers (r + 1) m ≡ Claim rs m (later S p n (r + 1))) → Dec (q < p ^ n)
+          → Answers q (suc m) ≡ Claim (r ∷ rs) (suc m) (later S p n q)
       go ih (no h) = absurd (nil≢cons (sym (from-past q (omega arith)) ∙ e))
       go ih (yes h) =
           let k = first q h r rs e in
-          row-step q r m rs (later S p n q) (next-first S p n q h ∙ ap firstOf e)
+          answers-step q r m rs (later S p n q) (next-first S p n q h ∙ ap firstOf e)
           (ih (sym (k .others)) ∙ rw (later-same q r h (k .below) (k .element)))
 
   -- 01's claim about the whole row of calls
-  pub stepping : (q m : ℕ) → row (nextIn S p n) q m ≡ claimed S p n q m
+  pub stepping : (q m : ℕ) → answersFrom (nextIn S p n) q m ≡ claimed S p n q m
   unfolding claimed
-  stepping q m = row-is (from S p n q) q m refl
+  stepping q m = answers-are (from S p n q) q m refl

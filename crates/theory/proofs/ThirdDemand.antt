@@ -6,11 +6,11 @@ use Prim.Native.Nat.{ℕ, _^_, _≤_, _<_}
 use native.Mathlib.Omega.{arith}
 use lib.Dec.{ltb}
 use Rattle.theory.specs.Class.{Class, class}
-use Rattle.theory.specs.ClassList.{members}
+use Rattle.theory.specs.ClassList.{slot, members}
 use Rattle.theory.specs.Shortest.{shortest}
 use Rattle.theory.specs.Rival.{Rival}
-use Rattle.theory.specs.Stepping.{Answer, refused, firstOf, nextIn, row}
-use Rattle.theory.specs.ThirdDemand.{ThirdDemand, slot}
+use Rattle.theory.specs.Stepping.{Answer, refused, firstOf, nextIn, answersFrom}
+use Rattle.theory.specs.ThirdDemand.{ThirdDemand}
 use Rattle.theory.proofs.Lists.Index.{in-at, same-index}
 use Rattle.theory.proofs.Classes.Cover.{shortest-rival, shortest-disjoint, shortest-no-repeat}
 use Rattle.theory.proofs.Classes.Rival.{rival-at-least-as-long, rival-as-long-is-shortest}
@@ -38,5 +38,5 @@ module _ (S : ℕ → Bool) (p n : ℕ) (two : 2 ≤ p) where
             (shortest-disjoint S p n hp (slot (shortest S p n) i) (slot (shortest S p n) j)
             (in-at (shortest S p n) i (class 0 0) hi) (in-at (shortest S p n) j (class 0 0) hj) r mi mj);
         stepping = λ q m.
-            ap (λ (next : ℕ → Answer). row next q m) (rival-next (shortest S p n) (shortest-rival S p n hp)) ∙ stepping S p n q m;
+            ap (λ (next : ℕ → Answer). answersFrom next q m) (rival-next (shortest S p n) (shortest-rival S p n hp)) ∙ stepping S p n q m;
       }

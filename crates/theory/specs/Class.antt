@@ -27,6 +27,10 @@ pub record Member (p n : ℕ) (c : Class) (r : ℕ) : Type 0 where
   pub below : r < p ^ n
   pub congruent : r % p ^ (c .level) ≡ c .residue
 
+-- every member of the second is one of the first
+abbrev pub Contains : ℕ → ℕ → Class → Class → Type 0
+Contains p n c d = (r : ℕ) → Member p n d r → Member p n c r
+
 -- "there are p^(n − t)"
 unfoldable pub memberCount : ℕ → ℕ → Class → ℕ
 memberCount p n c = p ^ (n - c .level)

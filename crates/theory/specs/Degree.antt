@@ -1,5 +1,5 @@
 -- Valuations, and the numbers s and D (01, "Classes, levels and D").
-use mathlib.Core.Bool.{Bool, true, false, not, _||_}
+use mathlib.Core.Bool.{Bool, true, false, not, _&&_, _||_}
 use mathlib.Core.List.{List, [], _∷_, map, foldr}
 use Prim.Native.Nat.{ℕ, zero, suc, _/_, _^_, min}
 use lib.Dec.{eqb}
@@ -36,6 +36,11 @@ unfoldable pub some : (ℕ → Bool) → List ℕ → Bool
 some test [] = false
 some test (a ∷ f) = test a || some test f
 
+-- every entry passes it
+unfoldable pub every : (ℕ → Bool) → List ℕ → Bool
+every test [] = true
+every test (a ∷ f) = test a && every test f
+
 -- the highest index whose entry passes the test, and 0 where none does
 unfoldable pub highest : (ℕ → Bool) → List ℕ → ℕ
 unfolding some
@@ -49,5 +54,5 @@ degreeBound p f = highest (λ a. not (divides p (a / p ^ leastValuation p f))) f
 
 -- "If all are zero, everything is a root"
 unfoldable pub allZero : List ℕ → Bool
-unfolding some
-allZero f = not (some (λ a. not (eqb a 0)) f)
+unfolding every
+allZero f = every (λ a. eqb a 0) f

@@ -6,7 +6,6 @@ pub mod Polynomial
 pub mod Degree
 pub mod Class
 pub mod Shortest
-pub mod Tree
 pub mod Mark
 pub mod ClassList
 pub mod RootMap
@@ -14,3 +13,4 @@ pub mod Rival
 pub mod Stepping
 pub mod ThirdDemand
 pub mod Examples
+pub mod inner

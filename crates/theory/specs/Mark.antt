@@ -7,7 +7,12 @@ use Rattle.theory.specs.Prime.{divides}
 use Rattle.theory.specs.Polynomial.{reduced, value, derivative}
 use Rattle.theory.specs.Class.{Class}
 
--- "Each class has a mark: 1 if p does not divide f'(a), otherwise 0"
+-- of coefficients that are reduced: "1 if p does not divide f'(a), otherwise 0"
+unfoldable pub markOf : List ℕ → ℕ → Class → ℕ
+unfolding value derivative divides
+markOf w p c = elim (divides p (value (derivative w) (c .residue))) [ true ↦ 0 | false ↦ 1 ]
+
+-- "Each class has a mark"
 unfoldable pub mark : List ℤ → ℕ → ℕ → Class → ℕ
-unfolding reduced value derivative divides
-mark f p n c = elim (divides p (value (derivative (reduced f p n)) (c .residue))) [ true ↦ 0 | false ↦ 1 ]
+unfolding reduced markOf
+mark f p n c = markOf (reduced f p n) p c

@@ -1,6 +1,6 @@
 -- Divisors and primes.
 use mathlib.Core.Bool.{Bool, not, _&&_}
-use Prim.Native.Nat.{ℕ, _+_, _-_, _%_}
+use Prim.Native.Nat.{ℕ, _+_, _-_, _%_, _≤_, _<_, _∣_}
 use lib.Dec.{eqb, leb}
 use Rattle.theory.specs.Range.{allBelow, least}
 
@@ -12,6 +12,11 @@ divides d x = eqb (x % d) 0
 unfoldable pub isPrime : ℕ → Bool
 unfolding allBelow divides
 isPrime p = leb 2 p && allBelow (λ i. not (divides (i + 2) p)) (p - 2)
+
+-- the same as a fact, which contracts of inner functions ask for
+pub record Prime (p : ℕ) : Type 0 where
+  pub two : 2 ≤ p
+  pub only : (d : ℕ) → 2 ≤ d → d < p → ¬ (d ∣ p)
 
 -- the least divisor above 1 of a number above 1: the first of 2 … p − 1 that divides p, and p itself where none does
 unfoldable pub leastDivisor : ℕ → ℕ

@@ -23,14 +23,14 @@ unfolding bitsFrom
 bytesFrom b zero j = []
 bytesFrom b (suc k) j = bitsFrom b 8 (8 * j) ∷ bytesFrom b k (suc j)
 
--- "pⁿ / 8 rounded up"
-unfoldable pub mapLength : ℕ → ℕ → ℕ
-mapLength p n = (p ^ n + 7) / 8
+-- "pⁿ / 8 rounded up", of m = pⁿ
+unfoldable pub mapLength : ℕ → ℕ
+mapLength m = (m + 7) / 8
 
 -- the map of a list of classes
 unfoldable pub rootMap : ℕ → ℕ → List Class → List ℕ
 unfolding bitOf bytesFrom mapLength members
-rootMap p n cs = bytesFrom (bitOf (members p cs) (p ^ n)) (mapLength p n) 0
+rootMap p n cs = bytesFrom (bitOf (members p cs) (p ^ n)) (mapLength (p ^ n)) 0
 
 -- the bit of residue r in a map
 unfoldable pub bit : List ℕ → ℕ → ℕ

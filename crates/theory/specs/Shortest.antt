@@ -1,12 +1,13 @@
 -- The list of the solver, for any set S of residues below pⁿ: 01's "The list holds the whole classes that lie in no larger whole class,
 -- rising by a". A set is its test; the roots of a polynomial are one such set.
-use mathlib.Core.Bool.{Bool, _&&_}
+use mathlib.Core.Path.{_≡_}
+use mathlib.Core.Bool.{Bool, true, false, _&&_}
 use mathlib.Core.List.{List, map}
-use Prim.Native.Nat.{ℕ, suc, _+_, _-_, _*_, _%_, _^_}
+use Prim.Native.Nat.{ℕ, suc, _+_, _-_, _*_, _%_, _^_, _<_}
 use lib.Dec.{ltb}
 use lib.ListN.{length}
 use Rattle.theory.specs.Range.{allBelow, least, passing}
-use Rattle.theory.specs.Class.{Class, class}
+use Rattle.theory.specs.Class.{Class, class, IsClass, Contains}
 
 -- "A class is whole if every member is a root": a, a + p^t, a + 2·p^t, … below pⁿ are all in S. `whole` is 01's term
 unfoldable pub isWhole : (ℕ → Bool) → ℕ → ℕ → Class → Bool
@@ -36,6 +37,12 @@ largest S p n r = class r (levelOf S p n r)
 unfoldable pub shortest : (ℕ → Bool) → ℕ → ℕ → List Class
 unfolding passing isListed largest
 shortest S p n = map (largest S p n) (passing (isListed S p n) (p ^ n) 0)
+
+-- a whole class "that lies in no larger whole class": the list holds exactly these, by a theorem
+pub record Maximal (S : ℕ → Bool) (p n : ℕ) (c : Class) : Type 0 where
+  pub is-class : IsClass p n c
+  pub whole : isWhole S p n c ≡ true
+  pub in-no-larger : (d : Class) → IsClass p n d → d .level < c .level → Contains p n d c → isWhole S p n d ≡ false
 
 -- how many residues below pⁿ are in S; of the roots, 01's "root count"
 unfoldable pub count : (ℕ → Bool) → ℕ → ℕ → ℕ

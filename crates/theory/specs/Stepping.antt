@@ -28,11 +28,11 @@ following (root r) q = r + 1
 following none q = q
 following (refused number place) q = q
 
--- the answers of m calls, the first of which gets q
-unfoldable pub row : (ℕ → Answer) → ℕ → ℕ → List Answer
+-- "the whole row of calls": the answers of m of them, the first of which gets q
+unfoldable pub answersFrom : (ℕ → Answer) → ℕ → ℕ → List Answer
 unfolding following
-row next q zero = []
-row next q (suc m) = next q ∷ row next (following (next q) q) m
+answersFrom next q zero = []
+answersFrom next q (suc m) = next q ∷ answersFrom next (following (next q) q) m
 
 -- "each later answer is refusal 8, place 0, where q is not below pⁿ or pⁿ − 1 is a root, and none otherwise"
 unfoldable pub later : (ℕ → Bool) → ℕ → ℕ → ℕ → Answer

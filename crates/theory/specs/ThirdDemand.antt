@@ -4,16 +4,12 @@ use mathlib.Core.Path.{_≡_}
 use mathlib.Core.Bool.{Bool}
 use mathlib.Core.List.{List}
 use Prim.Native.Nat.{ℕ, _≤_, _<_}
-use lib.ListN.{length, getD}
+use lib.ListN.{length}
 use Rattle.theory.specs.Lists.{Permutation}
-use Rattle.theory.specs.Class.{Class, class, Member}
-use Rattle.theory.specs.ClassList.{members}
+use Rattle.theory.specs.Class.{Class, Member}
+use Rattle.theory.specs.ClassList.{slot, members}
 use Rattle.theory.specs.Rival.{Rival}
-use Rattle.theory.specs.Stepping.{nextIn, row, claimed}
-
--- the class in slot i
-abbrev pub slot : List Class → ℕ → Class
-slot L i = getD L i (class 0 0)
+use Rattle.theory.specs.Stepping.{nextIn, answersFrom, claimed}
 
 pub record ThirdDemand (S : ℕ → Bool) (p n : ℕ) (L : List Class) : Type 0 where
   -- "its first k slots are a rival"
@@ -25,4 +21,4 @@ pub record ThirdDemand (S : ℕ → Bool) (p n : ℕ) (L : List Class) : Type 0 
   -- "No residue is a member of the classes in two of these slots"
   pub disjoint : (i j : ℕ) → i < length L → j < length L → (r : ℕ) → Member p n (slot L i) r → Member p n (slot L j) r → i ≡ j
   -- "This is a single claim about the whole row of calls, for every f, p and n accepted and every q and m"
-  pub stepping : (q m : ℕ) → row (nextIn (members p L) p n) q m ≡ claimed S p n q m
+  pub stepping : (q m : ℕ) → answersFrom (nextIn (members p L) p n) q m ≡ claimed S p n q m

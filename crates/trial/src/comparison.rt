@@ -1,186 +1,108 @@
 // One polynomial: all comparisons.
 use crate::bound;
+use crate::coefficients::Polynomial;
+use crate::library;
 use crate::listed;
-use crate::listed::UNUSED;
 use crate::mapped;
-use crate::merging;
+use crate::modular::Modulus;
+use crate::modular::multiply_add;
 use crate::plain;
-use crate::stepped;
-use crate::table;
+use crate::plain::Roots;
+use crate::table::byte;
+use crate::table::entry;
 use crate::tally;
-use solver::Solved;
-use solver::Tested;
+use crate::tally::Tally;
 
-// The solver's answer in numbers.
-struct Answer {
-    accepted: bool,
-    classes: usize,
-    roots: u64,
+// Whether next is tried from r: from 0, from the point after each root, as in stepping, from every seventh, and from the last.
+fn is_point(roots: Roots, m: u32, r: u32) -> bool {
+    (r == 0) | (r % 7 == 3) | (roots.at((r % 520 + 519) % 520) == 1) | (r % 520 + 1 == m)
 }
 
-// A call of the solver.
-fn solve(
-    f: &[i64],
-    p: u32,
-    n: u32,
-    residues: &mut [u32],
-    levels: &mut [u8],
-    marks: &mut [u8],
-) -> Answer {
-    match solver::solve(f, p, n, residues, levels, marks) {
-        Solved::Found { classes, roots } => Answer {
-            accepted: true,
-            classes,
-            roots,
-        },
-        Solved::Refused(_) => Answer {
-            accepted: false,
-            classes: 0,
-            roots: 0,
-        },
+// Every residue from the last down: the test, the classes that it is a member of, and next.
+fn residues(
+    f: Polynomial,
+    residues: [u32; 65],
+    levels: [u8; 65],
+    k: usize,
+    x: Modulus,
+    roots: Roots,
+    mut tally: Tally,
+) -> Tally {
+    let coefficients = f.f;
+    let mut least = x.m;
+    let mut r = x.m;
+    while 0 < r {
+        r -= 1;
+        let root = roots.at(r);
+        if root == 1 {
+            least = r;
+        }
+        let count = listed::memberships(residues, levels, k, x.p, r);
+        tally = tally.compare(tally::TEST, library::test(coefficients, f.c, x, r) == root);
+        tally = tally.compare(tally::MEMBER, (0 < count) == (root == 1));
+        tally = tally.compare(tally::SHARED, count < 2);
+        if is_point(roots, x.m, r) {
+            tally = tally.compare(
+                tally::NEXT,
+                library::next(residues, levels, k, x, r) == least,
+            );
+        }
     }
+    tally
 }
 
-// The test's answer: 1 for yes, 0 for no, 2 for a refusal.
-fn tested(f: &[i64], p: u32, n: u32, r: u32) -> u8 {
-    match solver::is_root(f, p, n, r) {
-        Tested::Yes => 1,
-        Tested::No => 0,
-        Tested::Refused(_) => 2,
-    }
-}
-
-// The test at every residue, and at m, where it is refused.
-fn compare_tests(f: &[i64], p: u32, n: u32, m: u32, roots: &[u8], tally: &mut [u64]) {
+// The classes and their marks one after the other, and their number.
+fn classes(
+    f: Polynomial,
+    x: Modulus,
+    roots: Roots,
+    residues: [u32; 65],
+    levels: [u8; 65],
+    marks: [u8; 65],
+    k: usize,
+    mut tally: Tally,
+) -> Tally {
+    let g = f.g;
+    let mut i: usize = 0;
     let mut r: u32 = 0;
-    while r < m {
-        tally::compare(
-            tally,
-            tally::TEST,
-            tested(f, p, n, r) == table::byte(roots, r as usize),
-        );
+    while r < x.m {
+        let t = listed::level(roots, x, r);
+        if t <= x.n {
+            let same = (entry(residues, i) == r) & (byte(levels, i) == t);
+            let v = plain::evaluate(g, f.c, r, x.m);
+            let mark = 0 < multiply_add(v.derivative, 1, 0, x.p);
+            tally = tally.compare(tally::ENTRY, same);
+            tally = tally.compare(tally::MARK, byte(marks, i) == mark as u32);
+            i = i % 512 + 1;
+        }
         r += 1;
     }
-    tally::compare(tally, tally::TEST, tested(f, p, n, m) == 2);
+    tally.compare(tally::CLASSES, i == k)
 }
 
-// The first k classes against those merged from the roots.
-fn compare_shortest(
-    p: u32,
-    n: u32,
-    m: u32,
-    residues: &[u32],
-    levels: &[u8],
-    k: usize,
-    roots: &[u8],
-    tally: &mut [u64],
-) {
-    let mut whole = [0u8; 8192];
-    let mut expected = [0u32; 512];
-    let mut expected_levels = [0u32; 512];
-    merging::merge(roots, p, n, m, &mut whole);
-    let j = merging::list(&whole, p, n, m, &mut expected, &mut expected_levels);
-    tally::compare(tally, tally::CLASSES, j == k);
-    listed::compare_classes(residues, levels, k, &expected, &expected_levels, j, tally);
-}
-
-// The first k classes' members against the roots.
-fn compare_members(
-    p: u32,
-    m: u32,
-    residues: &[u32],
-    levels: &[u8],
-    k: usize,
-    roots: &[u8],
-    tally: &mut [u64],
-) {
-    let mut q = [0u32; 65];
-    listed::powers(levels, k, p, &mut q);
-    listed::compare_members(residues, &q, k, roots, m, tally);
-}
-
-// The first k classes, next and map against the roots.
-fn compare_list(
-    p: u32,
-    n: u32,
-    m: u32,
-    residues: &[u32],
-    levels: &[u8],
-    k: usize,
-    roots: &[u8],
-    tally: &mut [u64],
-) {
-    compare_shortest(p, n, m, residues, levels, k, roots, tally);
-    compare_members(p, m, residues, levels, k, roots, tally);
-    stepped::compare(p, n, m, residues, levels, k, roots, tally);
-    mapped::compare(p, n, m, residues, levels, k, roots, tally);
-}
-
-// The numbers that the solver returned; g has the c reduced coefficients.
-fn compare_numbers(
-    g: &[u32],
-    c: usize,
-    p: u32,
-    n: u32,
-    m: u32,
-    a: Answer,
-    roots: &[u8],
-    tally: &mut [u64],
-) {
-    tally::compare(tally, tally::ACCEPTED, a.accepted);
-    tally::compare(
-        tally,
-        tally::ROOTS,
-        a.roots == plain::count_roots(roots, m) as u64,
+// All comparisons for a polynomial modulo m, which is at most 512.
+pub(crate) fn run(polynomial: Polynomial, x: Modulus, mut tally: Tally) -> Tally {
+    let c = polynomial.c;
+    let f = polynomial.f;
+    let g = polynomial.g;
+    let roots = plain::find_roots(g, c, x.m);
+    let s = library::solve(f, c, x);
+    let list = s.residues;
+    let levels = s.levels;
+    let marks = s.marks;
+    let k = s.k;
+    tally = tally.add(tally::POLYNOMIALS, 1);
+    tally = tally.add(tally::RESIDUES, x.m as u64);
+    tally = tally.compare(tally::ACCEPTED, k < 65);
+    tally = tally.compare(tally::UNUSED, listed::unused(list, levels, marks, k));
+    tally = tally.compare(tally::ROOTS, s.roots == roots.count as u64);
+    tally = tally.compare(tally::BOUND, bound::holds(g, x, k));
+    tally = tally.compare(tally::TEST, library::test(f, c, x, x.m) == 2);
+    tally = tally.compare(
+        tally::NEXT,
+        library::next(list, levels, k, x, x.m) == 4294967295,
     );
-    tally::compare(tally, tally::BOUND, bound::holds(g, c, p, n, m, a.classes));
-}
-
-// The marks, and the slots after the first k.
-fn compare_slots(
-    g: &[u32],
-    c: usize,
-    p: u32,
-    residues: &[u32],
-    levels: &[u8],
-    marks: &[u8],
-    k: usize,
-    tally: &mut [u64],
-) {
-    tally::compare(
-        tally,
-        tally::UNUSED,
-        listed::unused(residues, levels, marks, k),
-    );
-    listed::compare_marks(g, c, p, residues, marks, k, tally);
-}
-
-// The solver's answer and lists.
-fn compare_solver(f: &[i64], g: &[u32], p: u32, n: u32, m: u32, roots: &[u8], tally: &mut [u64]) {
-    let mut residues = [UNUSED as u32; 65];
-    let mut levels = [UNUSED; 65];
-    let mut marks = [UNUSED; 65];
-    let a = solve(f, p, n, &mut residues, &mut levels, &mut marks);
-    let k = a.classes;
-    compare_numbers(g, f.len(), p, n, m, a, roots, tally);
-    compare_slots(g, f.len(), p, &residues, &levels, &marks, k, tally);
-    compare_list(p, n, m, &residues, &levels, k, roots, tally);
-}
-
-// All comparisons for the polynomial f modulo m = pⁿ, which is at most 512.
-fn run(f: &[i64], p: u32, n: u32, m: u32, tally: &mut [u64]) {
-    let mut g = [0u32; 65];
-    let mut roots = [0u8; 520];
-    plain::reduce(f, m, &mut g);
-    plain::find_roots(&g, f.len(), m, &mut roots);
-    tally::add(tally, tally::POLYNOMIALS, 1);
-    tally::add(tally, tally::RESIDUES, m as u64);
-    compare_tests(f, p, n, m, &roots, tally);
-    compare_solver(f, &g, p, n, m, &roots, tally);
-}
-
-// The same for the first c of these coefficients.
-pub(crate) fn run_first(f: &[i64], c: usize, p: u32, n: u32, m: u32, tally: &mut [u64]) {
-    let k = table::signed_slots(f, c);
-    run(&f[..k], p, n, m, tally);
+    tally = residues(polynomial, list, levels, k, x, roots, tally);
+    tally = classes(polynomial, x, roots, list, levels, marks, k, tally);
+    mapped::compare(list, levels, k, x, roots, tally)
 }

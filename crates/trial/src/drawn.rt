@@ -1,92 +1,29 @@
-// Polynomials with drawn coefficients, among them the ends of the 64-bit range.
-ghost use Prim.Native.Nat.{_≤_};
+// Polynomials with drawn coefficients, among them the ends of the 64-bit range, and the same times a power of p.
+use crate::coefficients::Polynomial;
+use crate::coefficients::Source;
 use crate::comparison;
-use crate::lifting::lift;
-use crate::modular::multiply_add;
+use crate::factors;
+use crate::factors::Factor;
+use crate::modular::Modulus;
 use crate::modular::power;
-use crate::modular::product;
-use crate::modular::residue;
 use crate::random::draw;
-use crate::table;
-use std::num::wrapping_add_u32;
+use crate::tally::Tally;
 
-// A number below 2^56.
-fn large(seed: u32, i: u32) -> u64
-    ensures { λ r. ⌜ r ≤ 72057594037927935 ⌝ }
-{
-    draw(seed, i, 1) as u64 * 8388608 + draw(seed, i, 2) as u64
-}
-
-// The coefficient of index i of the polynomial of number `seed`: an end of the range, a small or a large number.
-fn coefficient(seed: u32, i: u32) -> i64 {
-    match draw(seed, i, 3) % 10 {
-        0 => -9223372036854775808,
-        1 => 9223372036854775807,
-        2 => -1,
-        3 => 0,
-        4 => 1,
-        5 => large(seed, i) as i64,
-        6 => !(large(seed, i) as i64),
-        7 => draw(seed, i, 4) as i64,
-        8 => (9223372036854775807 - large(seed, i)) as i64,
-        _ => !((9223372036854775807 - large(seed, i)) as i64),
-    }
-}
-
-// All coefficients of a polynomial.
-fn write_coefficients(seed: u32, f: &mut [i64]) {
-    let mut number: u32 = 0;
-    let mut i: usize = 0;
-    while i < f.len() {
-        f[i] = coefficient(seed, number);
-        number = wrapping_add_u32(number, 1);
-        i += 1;
-    }
-}
-
-// The residues of q·f modulo m.
-fn scale(f: &[i64], q: u32, m: u32, g: &mut [u32]) {
-    let mut i: usize = 0;
-    while i < f.len() {
-        table::put(g, i, multiply_add(residue(f[i], m), q, 0, m));
-        i += 1;
-    }
-}
-
-// How many coefficients: 65 for every second polynomial.
-fn coefficients(seed: u32) -> usize {
-    if seed % 2 == 0 {
-        return 65;
-    }
-    (1 + draw(seed, 0, 5) % 65) as usize
-}
-
-// One polynomial.
-fn one(seed: u32, p: u32, n: u32, m: u32, tally: &mut [u64]) {
-    let mut f = [0i64; 65];
-    write_coefficients(seed, &mut f);
-    comparison::run_first(&f, coefficients(seed), p, n, m, tally);
-}
-
-// One polynomial times q, reduced and lifted again.
-fn one_scaled(seed: u32, q: u32, p: u32, n: u32, m: u32, tally: &mut [u64]) {
-    let mut f = [0i64; 65];
-    let mut g = [0u32; 65];
-    write_coefficients(seed, &mut f);
-    scale(&f, q, m, &mut g);
-    lift(&g, m, seed, &mut f);
-    comparison::run_first(&f, coefficients(seed), p, n, m, tally);
-}
-
-// Forty polynomials, and each of them times p^j.
-pub(crate) fn polynomials(j: u32, p: u32, n: u32, m: u32, tally: &mut [u64]) {
-    let q = power(p, j);
-    let first = product(40, j);
-    let mut i: u32 = 0;
-    while i < 40 {
-        let seed = wrapping_add_u32(first, i);
-        one(seed, p, n, m, tally);
-        one_scaled(seed, q, p, n, m, tally);
-        i += 1;
-    }
+// One polynomial, every second one with 65 coefficients, and it times p^j, reduced and lifted again.
+pub(crate) fn pair(seed: u32, j: u32, x: Modulus, tally: Tally) -> Tally {
+    let c = if seed % 2 == 0 {
+        65
+    } else {
+        (1 + draw(seed, 0, 5) % 65) as usize
+    };
+    let f = Polynomial::new(Source::Drawn(seed), [0; 65], c, x.m);
+    let factor = Factor {
+        e: 65,
+        d: 0,
+        a: power(x.p, j),
+    };
+    let g = f.g;
+    let product = factors::multiply(g, factor, x.m);
+    let scaled = Polynomial::new(Source::Residues(seed), product, c, x.m);
+    comparison::run(scaled, x, comparison::run(f, x, tally))
 }

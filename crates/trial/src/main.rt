@@ -1,25 +1,85 @@
 // Small polynomials against plain trial of residues: every answer of the solver, of the test, of next and of the map is compared with
 // what evaluation at each residue gives. The last line says how many answers differ.
 mod bound;
+mod coefficients;
 mod comparison;
 mod drawn;
 mod factors;
-mod family;
-mod lifting;
+mod library;
 mod listed;
 mod mapped;
-mod merging;
 mod modular;
 mod plain;
+mod prefix;
+mod products;
 mod random;
 mod small;
-mod stepped;
 mod table;
 mod tally;
 
+use modular::Modulus;
+use modular::multiply_add;
+use modular::power;
+use tally::Tally;
+
+// The powers below 512 of eight primes, each as the digits of p, of n, and of the number of coefficients up to which all polynomials are
+// tried. A product of 64 factors can have 64 classes modulo 67 and 509.
+const ROWS: [u32; 25] = [
+    218,
+    225,
+    234,
+    243,
+    253,
+    262,
+    270,
+    280,
+    316,
+    324,
+    333,
+    342,
+    350,
+    515,
+    523,
+    530,
+    714,
+    722,
+    730,
+    1114,
+    1120,
+    1313,
+    1320,
+    6710,
+    50910,
+];
+
+// All polynomials with 1 to c coefficients, and for each j below n products of 16 kinds times p^j and 40 drawn polynomials, alone and times
+// p^j.
+fn families(x: Modulus, c: u32, mut tally: Tally) -> Tally {
+    let end = multiply_add(40, x.n, 0, 4294967295);
+    let mut i: u32 = 0;
+    while i < end {
+        if i < c {
+            tally = small::all(x, i + 1, tally);
+        }
+        if i / 16 < x.n {
+            tally = products::all(i % 16, i / 16, x, tally);
+        }
+        tally = drawn::pair(i, i / 40, x, tally);
+        i += 1;
+    }
+    tally
+}
+
 fn main() {
-    let mut tally = [0u64; 32];
-    small::run(&mut tally);
-    family::run(&mut tally);
-    tally::print(&tally);
+    let mut tally = Tally { counts: [0; 32] };
+    let mut i: usize = 0;
+    while i < 25 {
+        let row = ROWS[i];
+        let p = row / 100;
+        let n = row / 10 % 10;
+        let m = power(p, n);
+        tally = families(Modulus { p, n, m }, row % 10, tally);
+        i += 1;
+    }
+    tally.print();
 }

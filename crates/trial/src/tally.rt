@@ -1,9 +1,13 @@
 // How many comparisons of each kind there were, and how many differed.
 use libc::STDOUT_FILENO;
 use std::num::wrapping_add_u64;
-use std::num::wrapping_add_usize;
 
-// Places in the table: the number of a kind's comparisons, and after it the number of differences.
+// The number of comparisons of each kind, and after it the number of differences.
+pub(crate) struct Tally {
+    pub(crate) counts: [u64; 32],
+}
+
+// The kinds, as places in the table.
 pub(crate) const POLYNOMIALS: usize = 0;
 
 pub(crate) const RESIDUES: usize = 1;
@@ -34,76 +38,60 @@ pub(crate) const MAP: usize = 24;
 
 pub(crate) const ONES: usize = 26;
 
-// Adds x at a place.
-pub(crate) fn add(tally: &mut [u64], i: usize, x: u64) {
-    if i < tally.len() {
-        tally[i] = wrapping_add_u64(tally[i], x);
+const DIFFERENCES: usize = 28;
+
+impl Tally {
+    // x more at a place.
+    pub(crate) fn add(self, i: usize, x: u64) -> Tally {
+        let mut counts = self.counts;
+        if i < 32 {
+            counts[i] = wrapping_add_u64(counts[i], x);
+        }
+        Tally { counts }
     }
-}
 
-// One comparison of a kind.
-pub(crate) fn compare(tally: &mut [u64], kind: usize, same: bool) {
-    add(tally, kind, 1);
-    if !same {
-        add(tally, wrapping_add_usize(kind, 1), 1);
+    // One comparison of a kind.
+    pub(crate) fn compare(self, kind: usize, same: bool) -> Tally {
+        let differ = !same as u64;
+        self.add(kind, 1)
+            .add(kind % 32 + 1, differ)
+            .add(DIFFERENCES, differ)
     }
-}
 
-// The number at a place.
-fn at(tally: &[u64], i: usize) -> u64 {
-    if i < tally.len() { tally[i] } else { 0 }
-}
-
-// Writes to standard output.
-fn text(bytes: &[u8]) {
-    io::write_all(STDOUT_FILENO, bytes);
-}
-
-// The line of a kind of comparison.
-fn line(tally: &[u64], kind: usize, name: &[u8]) {
-    text(name);
-    text(b": ");
-    io::print_decimal(STDOUT_FILENO, at(tally, kind));
-    text(b" compared, ");
-    io::print_decimal(STDOUT_FILENO, at(tally, wrapping_add_usize(kind, 1)));
-    text(b" differ\n");
-}
-
-// A line with one number.
-fn number_line(name: &[u8], x: u64) {
-    text(name);
-    text(b": ");
-    io::print_decimal(STDOUT_FILENO, x);
-    text(b"\n");
-}
-
-// The differences of all kinds.
-fn differences(tally: &[u64]) -> u64 {
-    let mut sum: u64 = 0;
-    let mut kind: usize = TEST;
-    while kind < ONES + 2 {
-        sum = wrapping_add_u64(sum, at(tally, kind + 1));
-        kind += 2;
+    // Prints a byte of the form: the number at a place for #. The place after it.
+    fn put(self, b: u8, place: usize) -> usize {
+        if b == b'#' {
+            io::print_decimal(STDOUT_FILENO, self.counts[place % 32]);
+            return place % 32 + 1;
+        }
+        io::write_all(STDOUT_FILENO, &[b]);
+        place
     }
-    sum
-}
 
-// All lines.
-pub(crate) fn print(tally: &[u64]) {
-    number_line(b"polynomials", at(tally, POLYNOMIALS));
-    number_line(b"residues", at(tally, RESIDUES));
-    line(tally, TEST, b"test of a residue");
-    line(tally, ACCEPTED, b"problem accepted");
-    line(tally, CLASSES, b"number of classes");
-    line(tally, ENTRY, b"residue and level of a class");
-    line(tally, MARK, b"mark of a class");
-    line(tally, UNUSED, b"later slots kept");
-    line(tally, MEMBER, b"member of a class exactly if a root");
-    line(tally, SHARED, b"member of one class at most");
-    line(tally, ROOTS, b"root count");
-    line(tally, BOUND, b"at most D classes");
-    line(tally, NEXT, b"next root");
-    line(tally, MAP, b"bit of the map");
-    line(tally, ONES, b"count of the map");
-    number_line(b"differences in all", differences(tally));
+    // Prints the form, with the next number of the table at each #.
+    pub(crate) fn print(self) {
+        let form: &[u8] = b"polynomials: #
+residues: #
+test of a residue: # compared, # differ
+problem accepted: # compared, # differ
+number of classes: # compared, # differ
+residue and level of a class: # compared, # differ
+mark of a class: # compared, # differ
+later slots kept: # compared, # differ
+member of a class exactly if a root: # compared, # differ
+member of one class at most: # compared, # differ
+root count: # compared, # differ
+at most D classes: # compared, # differ
+next root: # compared, # differ
+bit of the map: # compared, # differ
+count of the map: # compared, # differ
+differences in all: #
+";
+        let mut place: usize = 0;
+        let mut i: usize = 0;
+        while i < form.len() {
+            place = self.put(form[i], place);
+            i += 1;
+        }
+    }
 }

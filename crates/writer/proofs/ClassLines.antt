@@ -1,4 +1,4 @@
--- The lines of the classes, and the sum of their member numbers, entry by entry.
+-- The lines of the classes, entry by entry.
 use mathlib.Core.Path.{_≡_, refl, sym, ap, _∙_}
 use mathlib.Core.List.{List, [], _∷_, _++_, append-assoc, append-nil}
 use Prim.Native.Nat.{ℕ, zero, suc, _+_, _-_, _*_, _^_, _<_}
@@ -6,26 +6,9 @@ use native.Mathlib.Numerals.{add-one}
 use native.Mathlib.Omega.{arith}
 use lib.ListN.{length, getD, take, length-append}
 use Rattle.theory.specs.Class.{Class, class, memberCount}
-use Rattle.theory.specs.ClassList.{memberTotal}
 use Rattle.classes.specs.Rule7.{classesOf}
-use Rattle.writer.specs.Place.{levelTotal}
 use Rattle.writer.specs.Output.{line, classLine, classLines}
 use Rattle.writer.proofs.Line.{line-length}
-
--- the sum of one class more
-pub total-next : (p n : ℕ) (levels : List ℕ) (t : ℕ) → levelTotal p n (levels ++ (t ∷ [])) ≡ levelTotal p n levels + p ^ (n - t)
-unfolding levelTotal
-total-next p n [] t = omega arith
-total-next p n (s ∷ levels) t = omega (arith, total-next p n levels t)
-
--- "the root count is the sum of the member numbers", which are those of the levels
-pub total-levels : (p n : ℕ) (residues levels : List ℕ) → length levels ≡ length residues
-    → levelTotal p n levels ≡ memberTotal p n (classesOf residues levels)
-unfolding levelTotal memberTotal classesOf
-total-levels p n [] [] e = refl
-total-levels p n [] (t ∷ levels) e = absurd (omega arith)
-total-levels p n (a ∷ residues) [] e = absurd (omega arith)
-total-levels p n (a ∷ residues) (t ∷ levels) e = ap (λ (x : ℕ). p ^ (n - t) + x) (total-levels p n residues levels (omega arith))
 
 -- the line of a class, from its numbers
 pub class-line : (p n a t members mark : ℕ) → members ≡ p ^ (n - t) → line a t members mark ≡ classLine p n (class a t) mark

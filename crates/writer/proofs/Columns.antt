@@ -10,7 +10,7 @@ use lib.Dec.{eqb, ltb}
 use lib.ListN.{length, drop, set, replicate, length-set, replicate-append-replicate}
 use lib.Seq.{drop-cons, getD-set-same, drop-set-lt}
 use Rattle.columns.specs.Column.{column, blank, digitByte}
-use Rattle.writer.specs.Place.{leftOf, leftByte}
+use Rattle.writer.specs.inner.Place.{leftOf, leftByte}
 
 no-digit : (w y : ℕ) → y ≡ 0 → leftOf w y ≡ replicate w blank
 unfolding leftOf

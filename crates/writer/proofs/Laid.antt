@@ -7,7 +7,7 @@ use native.Mathlib.Nat.{zero-add, add-zero}
 use native.Mathlib.Omega.{arith}
 use lib.ListN.{length, take, drop, set, length-append, length-drop, take-append-drop}
 use lib.Seq.{take-at, drop-at, take-all, drop-drop, drop-length, set-split, length-take-le}
-use Rattle.writer.specs.Place.{laid}
+use Rattle.writer.specs.inner.Place.{laid}
 
 module _ (at : ℕ) (e l : List ℕ) where
   -- nothing is longer or shorter

@@ -7,7 +7,7 @@ use lib.ListN.{length, drop, set, length-append}
 use Rattle.refusal.specs.declared.Refusal.{Refusal}
 use Rattle.refusal.specs.Number.{numberOf, placeOf}
 use Rattle.columns.specs.Column.{column, lineEnd}
-use Rattle.writer.specs.Place.{laid}
+use Rattle.writer.specs.inner.Place.{laid}
 use Rattle.writer.specs.Output.{line, refusalLine}
 use Rattle.columns.proofs.Length.{column-length}
 use Rattle.writer.proofs.Laid.{laid-length, laid-next, laid-byte, laid-zero}

@@ -1,4 +1,4 @@
 -- What the writer puts into the text.
 pub mod Output
-pub mod Place
 pub mod Written
+pub mod inner

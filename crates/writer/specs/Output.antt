@@ -3,7 +3,7 @@ use mathlib.Core.List.{List, [], _∷_, _++_}
 use Prim.Native.Nat.{ℕ}
 use lib.ListN.{length}
 use Rattle.theory.specs.Class.{Class, memberCount}
-use Rattle.theory.specs.ClassList.{memberTotal}
+use Rattle.theory.specs.ClassList.{levelsOf, memberTotal}
 use Rattle.refusal.specs.declared.Refusal.{Refusal}
 use Rattle.refusal.specs.Number.{numberOf, placeOf}
 use Rattle.columns.specs.Column.{column, lineEnd}
@@ -27,7 +27,7 @@ classLines p n (c ∷ cs) (mark ∷ marks) = classLine p n c mark ++ classLines 
 -- "a line of p, n, k and root count", "the root count is the sum of the member numbers"
 unfoldable pub outputText : ℕ → ℕ → List Class → List ℕ → List ℕ
 unfolding line classLines memberTotal
-outputText p n cs marks = line p n (length cs) (memberTotal p n cs) ++ classLines p n cs marks
+outputText p n cs marks = line p n (length cs) (memberTotal p n (levelsOf cs)) ++ classLines p n cs marks
 
 -- "one line instead: refusal number and place, 11 wide each"
 unfoldable pub refusalLine : Refusal → List ℕ

@@ -1,13 +1,12 @@
 -- What the writer answers, and what it leaves in the text (01, "Lent lists, map and text" and "When the solver declines").
-use mathlib.Core.List.{List, [], _∷_}
+use mathlib.Core.List.{List, [], _∷_, _++_}
 use Prim.Native.Nat.{ℕ, _+_, _*_}
 use lib.Dec.{ltb}
 use lib.ListN.{length}
 use Rattle.refusal.specs.declared.Refusal.the-variants.{BufferTooSmall}
 pub use Rattle.refusal.specs.Rules.{filled}
-use Rattle.refusal.specs.Rules.{Verdict, passes, refuses, rule, tried, rule6Three, rule12}
-use Rattle.numbers.specs.Modulus.{rule4, rule5}
-use Rattle.classes.specs.Rule7.{classesOf, rule7Marked}
+use Rattle.refusal.specs.Rules.{Verdict, passes, refuses, rule, tried, rule12}
+use Rattle.classes.specs.Checked.{markedRules}
 use Rattle.writer.specs.declared.Written.{Written}
 use Rattle.writer.specs.declared.Written.the-variants.{Bytes, Refused}
 
@@ -18,15 +17,9 @@ bytesOr (refuses r) bytes = Refused r
 
 -- the writer's rules, given the length of the buffer
 unfoldable pub writerVerdict : ℕ → ℕ → List ℕ → List ℕ → List ℕ → ℕ → Verdict
-unfolding rule4 rule5 classesOf rule7Marked
+unfolding markedRules
 writerVerdict p n residues levels marks bytes =
-    tried
-    (rule4 p
-    ∷ rule5 p n
-    ∷ rule6Three (length residues) (length levels) (length marks)
-    ∷ rule7Marked p n (classesOf residues levels) marks
-    ∷ rule12 bytes (length residues)
-    ∷ [])
+    tried (markedRules p n residues levels marks ++ rule12 bytes (length residues) ∷ [])
 
 -- a line of 45 bytes for the list, and one a class
 unfoldable pub writtenOf : ℕ → ℕ → List ℕ → List ℕ → List ℕ → ℕ → Written

@@ -4,7 +4,7 @@ ghost use mathlib.Core.List.{_++_};
 ghost use Prim.Native.Nat.{_+_, _≤_, _<_};
 ghost use lib.ListN.{length, drop};
 ghost use Rattle.columns.specs.Column.{column};
-ghost use Rattle.writer.specs.Place.{laid, leftOf, leftByte};
+ghost use Rattle.writer.specs.inner.Place.{laid, leftOf, leftByte};
 ghost use Rattle.writer.specs.Output.{line};
 
 // The byte next to the left of a digit, where y is the number without that digit.

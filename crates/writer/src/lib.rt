@@ -1,10 +1,10 @@
 // The text writer: a list of classes, or a refusal, as lines of columns in a lent text.
 ghost use mathlib.Core.Path.{_≡_};
-ghost use Prim.Native.Nat.{_+_, _*_};
+ghost use Prim.Native.Nat.{_+_, _*_, _^_};
 ghost use lib.ListN.{length};
 ghost use Rattle.refusal.specs.Rules.{rule12};
 ghost use Rattle.classes.specs.Rule7.{classesOf};
-ghost use Rattle.writer.specs.Place.{ListsFit};
+ghost use Rattle.classes.specs.inner.Usable.{UsableMarked};
 ghost use Rattle.writer.specs.Output.{outputText, refusalLine};
 ghost use Rattle.writer.specs.Written.{bytesOr, filled, writerVerdict, writtenOf, refusalVerdict, refusalWrittenOf};
 use numbers::Modulus;
@@ -50,7 +50,7 @@ fn write_checked(
     marks: &[u8],
     text: &mut [u8],
 ) -> Written
-    requires { ⌜ ListsFit p n (now residues) (now levels) (now marks) ⌝ }
+    requires { ⌜ UsableMarked p n (now residues) (now levels) (now marks) (p ^ n) ⌝ }
     ensures answer { λ r. ⌜ r ≡ bytesOr (rule12 (length (now (text .entry))) (length (now (residues .entry))))
         (45 * (length (now (residues .entry)) + 1)) ⌝ }
     ensures text { λ _. ⌜ now (text .exit)
@@ -62,7 +62,7 @@ fn write_checked(
     if text.len() < bytes {
         return Written::Refused(Refusal::BufferTooSmall(bytes));
     }
-    let roots = lines::member_total(p, n, levels);
+    let roots = numbers::member_total(p, n, levels);
     column::put_line(text, 0, p as u64, n as u64, k as u64, roots);
     lines::put_classes(p, n, residues, levels, marks, text);
     Written::Bytes(bytes)

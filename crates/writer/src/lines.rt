@@ -1,38 +1,13 @@
 // The lines of a list of classes.
 ghost use mathlib.Core.Path.{_≡_};
-ghost use Prim.Native.Nat.{_+_, _-_, _*_, _^_, _≤_, _<_};
+ghost use Prim.Native.Nat.{_+_, _*_, _^_, _≤_, _<_};
 ghost use lib.ListN.{length, getD};
 ghost use Rattle.theory.specs.Class.{class};
 ghost use Rattle.classes.specs.Rule7.{classesOf};
-ghost use Rattle.writer.specs.Place.{laid, levelTotal, LevelsFit, ListsFit};
+ghost use Rattle.classes.specs.inner.Usable.{UsableMarked};
+ghost use Rattle.writer.specs.inner.Place.{laid};
 ghost use Rattle.writer.specs.Output.{classLine, classLines};
 use crate::column;
-use numbers::Power;
-
-// The number of members of a class of level t.
-fn member_count(p: u32, n: u32, t: u8) -> u64
-    requires { ⌜ (0 < p) × (p ^ n ≤ 4294967295) × (t ≤ n) ⌝ }
-    ensures { λ r. ⌜ r ≡ p ^ (n - t) ⌝ }
-{
-    match numbers::power_within(p, n - (t as u32)) {
-        Power::Within(m) => m,
-        Power::Over => 0,
-    }
-}
-
-// The sum of the member numbers.
-pub(crate) fn member_total(p: u32, n: u32, levels: &[u8]) -> u64
-    requires { ⌜ LevelsFit p n (now levels) ⌝ }
-    ensures { λ r. ⌜ r ≡ levelTotal p n (now (levels .entry)) ⌝ }
-{
-    let mut sum: u64 = 0;
-    let mut i: usize = 0;
-    while i < levels.len() {
-        sum += member_count(p, n, levels[i]);
-        i += 1;
-    }
-    sum
-}
 
 // The line of class i, which is line i + 1 of the text.
 fn put_class(
@@ -44,7 +19,7 @@ fn put_class(
     i: usize,
     text: &mut [u8],
 )
-    requires { ⌜ ListsFit p n (now residues) (now levels) (now marks) × (i < length (now residues))
+    requires { ⌜ UsableMarked p n (now residues) (now levels) (now marks) (p ^ n) × (i < length (now residues))
         × (45 * (i + 1) + 45 ≤ length (now text)) ⌝ }
     ensures { λ _. ⌜ now (text .exit)
         ≡ laid (45 * (i + 1))
@@ -57,7 +32,7 @@ fn put_class(
         45 * (i + 1),
         residues[i] as u64,
         t as u64,
-        member_count(p, n, t),
+        numbers::member_count(p, n, t),
         marks[i] as u64,
     );
 }
@@ -71,7 +46,8 @@ pub(crate) fn put_classes(
     marks: &[u8],
     text: &mut [u8],
 )
-    requires { ⌜ ListsFit p n (now residues) (now levels) (now marks) × (45 * (length (now residues) + 1) ≤ length (now text)) ⌝ }
+    requires { ⌜ UsableMarked p n (now residues) (now levels) (now marks) (p ^ n)
+        × (45 * (length (now residues) + 1) ≤ length (now text)) ⌝ }
     ensures { λ _. ⌜ now (text .exit)
         ≡ laid 45 (classLines p n (classesOf (now (residues .entry)) (now (levels .entry))) (now (marks .entry))) (now (text .entry)) ⌝ }
 {

@@ -8,15 +8,15 @@ use Rattle.classes.proofs.Checks.{checked-6, checked-7, checked-passes}
 use Rattle.classes.proofs.check_entries.Statement.{statement}
 use Rattle.classes.proofs.check_entries.Tie as tie
 
-least-requires : tie.Need-least-requires
-least-requires c κs = search needs
+smaller-requires : tie.Need-smaller-requires
+smaller-requires c κs = search needs
 
 returns : tie.Need-returns
 returns c =
     let b = c .before .before .before .before in
     let a = b .args in
-    ap (λ (x : ℕ). Refused (Lengths x)) (c .least .ensures)
-    ∙ sym (checked-6 (a .p) (a .n) (a .residues .now) (a .levels .now) (a .m) (b .pre) (c .before .if1 .taken))
+    ap (λ (x : ℕ). Refused (Lengths x)) (c .smaller .ensures)
+    ∙ sym (checked-6 (a .p) (a .n) (a .residues .now) (a .levels .now) (b .pre) (c .before .if1 .taken))
 
 first-fault-requires : tie.Need-first-fault-requires
 first-fault-requires c κs = let b = c .before .before .before in (b .pre .prime .two, b .pre .within, c .if1 .left)
@@ -26,7 +26,7 @@ returns-2 c =
     let b = c .before .before .before .before .before in
     let a = b .args in
     let f = c .before .first-fault in
-    sym (checked-7 (a .p) (a .n) (a .residues .now) (a .levels .now) (a .m) (b .pre) (c .before .before .if1 .left) (f .result) (f .ensures)
+    sym (checked-7 (a .p) (a .n) (a .residues .now) (a .levels .now) (b .pre) (c .before .before .if1 .left) (f .result) (f .ensures)
     (c .if2 .taken))
 
 returns-3 : tie.Need-returns-3
@@ -34,9 +34,9 @@ returns-3 c =
     let b = c .before .before .before .before .before in
     let a = b .args in
     let f = c .before .first-fault in
-    sym (checked-passes (a .p) (a .n) (a .residues .now) (a .levels .now) (a .m) (b .pre) (c .before .before .if1 .left) (f .result)
+    sym (checked-passes (a .p) (a .n) (a .residues .now) (a .levels .now) (b .pre) (c .before .before .if1 .left) (f .result)
     (f .ensures) (c .if2 .left))
 
 pub check-entries-spec : {M : Type 1} → statement M
 check-entries-spec =
-    tie.close (tie.spec least-requires returns first-fault-requires returns-2 returns-3)
+    tie.close (tie.spec smaller-requires returns first-fault-requires returns-2 returns-3)

@@ -23,11 +23,11 @@ same-marks c =
     let k = length (a .residues .now) in
     eqb-true k (length (a .marks .now)) (not-false (eqb k (length (a .marks .now))) (c .if2 .left))
 
-least-requires : tie.Need-least-requires
-least-requires c κs = search needs
+smaller-requires : tie.Need-smaller-requires
+smaller-requires c κs = search needs
 
-least-requires-2 : tie.Need-least-requires-2
-least-requires-2 c κs = search needs
+smaller-requires-2 : tie.Need-smaller-requires-2
+smaller-requires-2 c κs = search needs
 
 returns : tie.Need-returns
 returns c =
@@ -36,10 +36,10 @@ returns c =
     let k = length (a .residues .now) in
     let differ : k ≡ length (a .marks .now) → not (eqb k (length (a .marks .now))) ≡ false =
     λ f. rw (eq-eqb k (length (a .marks .now)) f) in
-    let e : c .least2 .result ≡ min (length (a .residues .now)) (min (length (a .levels .now)) (length (a .marks .now))) =
-    c .least2 .ensures ∙ ap (λ (x : ℕ). min (length (a .residues .now)) x) (c .before .least .ensures) in
+    let e : c .smaller2 .result ≡ min (length (a .residues .now)) (min (length (a .levels .now)) (length (a .marks .now))) =
+    c .smaller2 .ensures ∙ ap (λ (x : ℕ). min (length (a .residues .now)) x) (c .before .smaller .ensures) in
     ap (λ (x : ℕ). Refused (Lengths x)) e
-    ∙ sym (marked-6 (a .p) (a .n) (a .residues .now) (a .levels .now) (a .marks .now) (a .m) (b .pre) (λ d f.
+    ∙ sym (marked-6 (a .p) (a .n) (a .residues .now) (a .levels .now) (a .marks .now) (b .pre) (λ d f.
     ⊎-elim (λ w. w .taken d) (λ w. contradiction (w .1 .taken) (differ f)) (c .before .before .if1 .came)))
 
 first-fault-requires : tie.Need-first-fault-requires
@@ -48,17 +48,17 @@ first-fault-requires c κs = let b = c .before .before .before .before .before i
 first-high-mark-requires : tie.Need-first-high-mark-requires
 first-high-mark-requires c κs = search needs
 
-least-requires-3 : tie.Need-least-requires-3
-least-requires-3 c κs = search needs
+smaller-requires-3 : tie.Need-smaller-requires-3
+smaller-requires-3 c κs = search needs
 
 returns-2 : tie.Need-returns-2
 returns-2 c =
     let b = c .before .before .before .before .before .before .before .before .before in
     let a = b .args in
-    let l = c .before .least3 in
+    let l = c .before .smaller3 in
     let i = c .before .before .before .first-fault in
     let j = c .before .before .first-high-mark in
-    sym (marked-7 (a .p) (a .n) (a .residues .now) (a .levels .now) (a .marks .now) (a .m) (b .pre)
+    sym (marked-7 (a .p) (a .n) (a .residues .now) (a .levels .now) (a .marks .now) (b .pre)
     (c .before .before .before .before .before .if1 .left) (same-marks (c .before .before .before .before))
     (i .result) (j .result) (l .result) (i .ensures) (j .ensures) (l .ensures) (c .if3 .taken))
 
@@ -66,10 +66,10 @@ returns-3 : tie.Need-returns-3
 returns-3 c =
     let b = c .before .before .before .before .before .before .before .before .before in
     let a = b .args in
-    let l = c .before .least3 in
+    let l = c .before .smaller3 in
     let i = c .before .before .before .first-fault in
     let j = c .before .before .first-high-mark in
-    sym (marked-passes (a .p) (a .n) (a .residues .now) (a .levels .now) (a .marks .now) (a .m) (b .pre)
+    sym (marked-passes (a .p) (a .n) (a .residues .now) (a .levels .now) (a .marks .now) (b .pre)
     (c .before .before .before .before .before .if1 .left) (same-marks (c .before .before .before .before))
     (i .result) (j .result) (l .result) (i .ensures) (j .ensures) (l .ensures) (c .if3 .left))
 
@@ -77,11 +77,11 @@ pub check-marked-entries-spec : {M : Type 1} → statement M
 check-marked-entries-spec =
     tie.close
     (tie.spec
-    least-requires
-    least-requires-2
+    smaller-requires
+    smaller-requires-2
     returns
     first-fault-requires
     first-high-mark-requires
-    least-requires-3
+    smaller-requires-3
     returns-2
     returns-3)

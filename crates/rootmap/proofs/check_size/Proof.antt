@@ -1,5 +1,6 @@
 -- `rootmap::check_size` meets its contract.
 use borrow.Author.Needs.{needs}
+use Rattle.theory.specs.RootMap.{mapLength}
 use Rattle.refusal.specs.declared.Refusal.the-variants.{MapTooLarge, MapLength}
 use Rattle.refusal.specs.Rules.{passes, refuses}
 use Rattle.rootmap.proofs.Verdicts.{too-large, wrong-length, size-fits, sized-is}
@@ -26,6 +27,7 @@ add-if2 : tie.Need-add-if2
 add-if2 c = search needs
 
 returns-3 : tie.Need-returns-3
+unfolding mapLength
 returns-3 c =
     let b = c .before .before .before in
     let a = b .before .before .args in
@@ -34,6 +36,7 @@ returns-3 c =
     (wrong-length (m .0 .0) (a .bytes) (c .before .if1 .left) (c .if2 .taken))
 
 returns-4 : tie.Need-returns-4
+unfolding mapLength
 returns-4 c =
     let b = c .before .before .before in
     let a = b .before .before .args in

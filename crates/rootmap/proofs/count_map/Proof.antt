@@ -5,7 +5,8 @@ use borrow.Author.Needs.{needs}
 use lib.ListN.{length}
 use Rattle.numbers.specs.declared.Modulus.{Modulus}
 use Rattle.numbers.specs.Modulus.{modulusOf}
-use Rattle.rootmap.specs.Map.{sizedOf}
+use Rattle.theory.specs.RootMap.{mapLength}
+use Rattle.rootmap.specs.inner.Size.{sizedOf}
 use Rattle.rootmap.proofs.Verdicts.{sized-accepted, count-passes, count-refuses}
 use Rattle.rootmap.proofs.Answers.{counted-is, count-refused-is}
 use Rattle.rootmap.proofs.count_map.Statement.{statement}
@@ -31,6 +32,7 @@ enum-known-m : tie.Need-enum-known-m
 enum-known-m c = search needs
 
 count-ones-requires : tie.Need-count-ones-requires
+unfolding mapLength
 count-ones-requires c κs =
     let m = c .before .m .given in
     let b = c .before .before .before in

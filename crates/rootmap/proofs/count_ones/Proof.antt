@@ -3,7 +3,7 @@ use mathlib.Core.Path.{_≡_, ap, ap₂, _∙_}
 use Prim.Native.Nat.{ℕ, _+_, _-_, _≤_}
 use native.Mathlib.Omega.{arith}
 use borrow.Author.Needs.{needs}
-use Rattle.rootmap.specs.Bits.{onesBelow}
+use Rattle.rootmap.specs.inner.Bits.{onesBelow}
 use Rattle.rootmap.proofs.Ones.{ones-none, ones-next, ones-most, bit-small}
 use Rattle.rootmap.proofs.count_ones.Statement.{statement}
 use Rattle.rootmap.proofs.count_ones.Tie as tie

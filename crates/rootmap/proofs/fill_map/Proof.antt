@@ -1,6 +1,5 @@
 -- `rootmap::fill_map` meets its contract.
 use mathlib.Core.Path.{_≡_, sym, ap, _∙_}
-use Prim.Native.Nat.{_+_, _/_}
 use native.Mathlib.Omega.{arith}
 use borrow.Author.Needs.{needs}
 use lib.ListN.{length}
@@ -10,9 +9,10 @@ use Rattle.numbers.specs.declared.Modulus.{Modulus}
 use Rattle.classes.specs.Rule7.{classesOf}
 use Rattle.classes.specs.Checked.{checkedOf}
 use Rattle.classes.proofs.Checks.{checked-accepted}
-use Rattle.rootmap.specs.Map.{sizedOf}
+use Rattle.theory.specs.RootMap.{mapLength}
+use Rattle.rootmap.specs.inner.Size.{sizedOf}
 use Rattle.rootmap.proofs.Bytes.{added-to-cleared}
-use Rattle.rootmap.proofs.Verdicts.{sized-accepted, map-passes, map-refuses, checked-given}
+use Rattle.rootmap.proofs.Verdicts.{sized-accepted, map-passes, map-refuses}
 use Rattle.rootmap.proofs.Answers.{mapped-is, filled-is, kept-is}
 use Rattle.rootmap.proofs.fill_map.Statement.{statement}
 use Rattle.rootmap.proofs.fill_map.Tie as tie
@@ -41,6 +41,7 @@ clear-requires : tie.Need-clear-requires
 clear-requires c κs = search needs
 
 set-classes-requires : tie.Need-set-classes-requires
+unfolding mapLength
 set-classes-requires c κs =
     let k = c .before .before .before in
     let b = k .before .before .before in
@@ -48,8 +49,7 @@ set-classes-requires c κs =
     let a = start (b .before .before) .args in
     let (e, s) = sized-accepted (checkedOf (a .p) (a .n) (a .residues .now) (a .levels .now)) (length (a .map .now)) (m .0 .0)
     (answer (b .before .before) ∙ m .1) in
-    let C = checked-accepted (a .p) (a .n) (a .residues .now) (a .levels .now) (m .0 .0) e in
-    (checked-given (a .p) (a .n) (m .0 .0) (a .residues .now) (a .levels .now) C, s .small, omega (arith, s .long, k .clear .kept .0))
+    (checked-accepted (a .p) (a .n) (a .residues .now) (a .levels .now) (m .0 .0) e, s .small, omega (arith, s .long, k .clear .kept .0))
 
 enum-known-r : tie.Need-enum-known-r
 enum-known-r c = search needs
@@ -67,14 +67,14 @@ returns c =
     let rs = a .residues .now in
     let ts = a .levels .now in
     let old = a .map .now in
-    let new = e .set-classes .last .1 .1 .1 .1 .0 in
+    let new = e .set-classes .last .1 .1 .1 .1 .1 .0 in
     let s = sized-accepted (checkedOf (a .p) (a .n) rs ts) (length old) (m .0 .0) (answer (b .before .before) ∙ m .1) .1 in
     let (v, q) = map-passes (a .p) (a .n) rs ts (length old) (m .0 .0) (answer (b .before .before) ∙ m .1) in
-    let long : length new ≡ (m .0 .0 + 7) / 8 = e .set-classes .kept .1 .1 .1 .1 .0 ∙ k .clear .kept .0 ∙ s .long in
+    let long : length new ≡ mapLength (m .0 .0) = e .set-classes .kept .1 .1 .1 .1 .1 .0 ∙ k .clear .kept .0 ∙ s .long in
     let S = members (a .p) (classesOf rs ts) in
     let full = added-to-cleared S (m .0 .0) (k .clear .last .0) new long (k .clear .ensures) (e .set-classes .ensures) in (
       mapped-is (a .p) (a .n) rs ts (length old) passes v,
-      filled-is (a .p) (a .n) rs ts old new (m .0 .0) v q full,
+      filled-is (a .p) (a .n) rs ts old new (m .0 .0) v q (s .long) full,
     )
 
 returns-2 : tie.Need-returns-2

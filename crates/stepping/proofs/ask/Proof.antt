@@ -7,8 +7,8 @@ use lib.ListN.{length, length-set}
 use Rattle.theory.specs.Stepping.{following}
 use Rattle.classes.specs.declared.next.Next.{Next}
 use Rattle.classes.specs.Next.{nextOf, answerOf}
-use Rattle.stepping.specs.Row.{encode}
-use Rattle.stepping.proofs.Rows.{Gone, gone-none, gone-next, gone-all, reached}
+use Rattle.stepping.specs.Encoded.{encode}
+use Rattle.stepping.proofs.Answers.{Gone, gone-none, gone-next, gone-all, reached}
 use Rattle.stepping.proofs.ask.Statement.{statement}
 use Rattle.stepping.proofs.ask.Tie as tie
 

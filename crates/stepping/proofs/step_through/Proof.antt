@@ -1,10 +1,12 @@
 -- `stepping::step_through` meets its contract, from the contracts of the solver and of next alone.
-use mathlib.Core.Path.{_≡_, sym, _∙_}
+use mathlib.Core.Path.{_≡_, sym, ap, _∙_}
 use borrow.Author.Needs.{needs}
 use lib.Seq.{length-take-le}
-use Rattle.stepping.specs.Call.{Input, Accepted, residuesLeft, levelsLeft}
-use Rattle.stepping.proofs.Accept.{refused-verdict, residues-long, levels-long}
-use Rattle.stepping.proofs.Demand.{list-checked, row-left}
+use Rattle.solver.specs.Solve.{Lists, lists}
+use Rattle.stepping.specs.Call.{Input, Accepted, left}
+use Rattle.solver.proofs.Answered.{refused-verdict}
+use Rattle.stepping.proofs.Accept.{residues-long, levels-long}
+use Rattle.stepping.proofs.Demand.{list-usable, answers-left}
 use Rattle.stepping.proofs.step_through.Statement.{statement}
 use Rattle.stepping.proofs.step_through.Tie as tie
 
@@ -20,18 +22,16 @@ module _ (c : tie.After-solve) where
         f = call .args .coefficients .now;
         p = call .args .p;
         n = call .args .n;
-        residues = call .args .residues .now;
-        levels = call .args .levels .now;
-        marks = call .args .marks .now;
+        given = lists (call .args .residues .now) (call .args .levels .now) (call .args .marks .now);
       }
 
-  residues-are : c .solve .last .1 .1 .1 .0 ≡ residuesLeft input
-  unfolding residuesLeft
-  residues-are = c .solve .ensures .1 .0
+  residues-are : c .solve .last .1 .1 .1 .0 ≡ left input .residues
+  unfolding left
+  residues-are = ap (λ (l : Lists). l .residues) (c .solve .ensures .1)
 
-  levels-are : c .solve .last .1 .1 .1 .1 .0 ≡ levelsLeft input
-  unfolding levelsLeft
-  levels-are = c .solve .ensures .1 .1 .0
+  levels-are : c .solve .last .1 .1 .1 .1 .0 ≡ left input .levels
+  unfolding left
+  levels-are = ap (λ (l : Lists). l .levels) (c .solve .ensures .1)
 
 module _ (c : tie.After-classes) where
   abbrev solved : tie.After-solve
@@ -47,28 +47,28 @@ enum-known-classes : tie.Need-enum-known-classes
 enum-known-classes c = search needs
 
 slice-reshare-prefix-ask : tie.Need-slice-reshare-prefix-ask
-slice-reshare-prefix-ask c = rw (residues-are (solved (c .before))) (residues-long (input (solved (c .before))) _ _ (accepted (c .before)))
+slice-reshare-prefix-ask c = rw (residues-are (solved (c .before))) (residues-long (input (solved (c .before))) (accepted (c .before)))
 
 slice-aggregate-ask : tie.Need-slice-aggregate-ask
 slice-aggregate-ask c =
     sym (length-take-le _ _
     (rw (residues-are (solved (c .before .before)))
-    (residues-long (input (solved (c .before .before))) _ _ (accepted (c .before .before)))))
+    (residues-long (input (solved (c .before .before))) (accepted (c .before .before)))))
 
 slice-reshare-prefix-ask-2 : tie.Need-slice-reshare-prefix-ask-2
 slice-reshare-prefix-ask-2 c =
-    rw (levels-are (solved (c .before .before))) (levels-long (input (solved (c .before .before))) _ _ (accepted (c .before .before)))
+    rw (levels-are (solved (c .before .before))) (levels-long (input (solved (c .before .before))) (accepted (c .before .before)))
 
 slice-aggregate-ask-2 : tie.Need-slice-aggregate-ask-2
 slice-aggregate-ask-2 c =
     sym (length-take-le _ _
     (rw (levels-are (solved (c .before .before .before)))
-    (levels-long (input (solved (c .before .before .before))) _ _ (accepted (c .before .before .before)))))
+    (levels-long (input (solved (c .before .before .before))) (accepted (c .before .before .before)))))
 
 ask-requires : tie.Need-ask-requires
 ask-requires c κs =
     let s = solved (c .before .before .before .before) in
-    list-checked (input s) _ _ (accepted (c .before .before .before .before)) _ _ (residues-are s) (levels-are s)
+    list-usable (input s) (accepted (c .before .before .before .before)) _ _ (residues-are s) (levels-are s)
 
 enum-known-r : tie.Need-enum-known-r
 enum-known-r c = search needs
@@ -91,15 +91,9 @@ returns c =
     let s = solved k in (
       sym (k .classes .given .1) ∙ s .solve .ensures .0,
       (
-        s .solve .ensures .1 .0,
-        (
-          s .solve .ensures .1 .1 .0,
-          (
-            s .solve .ensures .1 .1 .1,
-            row-left (input s) _ _ (accepted k) _ _ (residues-are s) (levels-are s) (call s .args .start) (call s .args .answers .now) _
-                (c .before .before .ask .ensures),
-          ),
-        ),
+        s .solve .ensures .1,
+        answers-left (input s) (accepted k) _ _ (residues-are s) (levels-are s) (call s .args .start) (call s .args .answers .now) _
+            (c .before .before .ask .ensures),
       ),
     )
 
@@ -117,10 +111,8 @@ returns-2 c =
     let s = c .before .before .before .before .before .before .before .before .before in
     let r = c .before .r .given in
     let a = call s .args in
-    let v = refused-verdict (a .coefficients .now) _ _ _ _ _ (r .0 .0) (sym (s .solve .ensures .0) ∙ r .1) in (
-      sym (r .1) ∙ s .solve .ensures .0,
-      (s .solve .ensures .1 .0, (s .solve .ensures .1 .1 .0, (s .solve .ensures .1 .1 .1, rw v))),
-    )
+    let v = refused-verdict (a .coefficients .now) _ _ (input s .given) (r .0 .0) (sym (s .solve .ensures .0) ∙ r .1) in
+    (sym (r .1) ∙ s .solve .ensures .0, (s .solve .ensures .1, rw v))
 
 pub step-through-spec : {M : Type 1} → statement M
 step-through-spec =

@@ -11,7 +11,7 @@ use Rattle.theory.proofs.Passing.{passing-next-off, passing-next-on}
 use Rattle.theory.specs.Range.{passing}
 use Rattle.theory.specs.Lists.{In}
 use Rattle.theory.specs.Class.{Class}
-use Rattle.theory.specs.Tree.{concatBelow}
+use Rattle.theory.specs.inner.Tree.{concatBelow}
 use Rattle.theory.proofs.Lists.Names.{in-nil, in-append, in-left, in-right}
 use Rattle.theory.proofs.Lists.NoRepeat.{NoRepeat, no-repeat-append}
 

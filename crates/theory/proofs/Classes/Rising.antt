@@ -9,7 +9,7 @@ use lib.ListN.{length}
 use Rattle.theory.specs.Lists.{In, here, there, Permutation}
 use Rattle.theory.specs.Range.{passing}
 use Rattle.theory.specs.Class.{Class, class}
-use Rattle.theory.specs.ThirdDemand.{slot}
+use Rattle.theory.specs.ClassList.{slot}
 use Rattle.theory.specs.Shortest.{isListed, largest, shortest}
 use Rattle.theory.proofs.Lists.Names.{in-cons, in-nil, perm-sym}
 use Rattle.theory.proofs.Lists.Index.{in-at}

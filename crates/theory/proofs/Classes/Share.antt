@@ -6,7 +6,7 @@ use Prim.Native.Nat.{ℕ, _%_, _^_, _≤_, _<_, min}
 use native.Mathlib.Nat.{mod-mod-of-dvd, mod-eq-of-lt, min-eq-left, min-comm, min-le-left, min-le-right, le-of-lt, lt-of-not-le}
 use native.Mathlib.Decide.{decLe}
 use borrow.Author.Tests.{eqb-true, eq-eqb}
-use Rattle.theory.specs.Class.{Class, IsClass, Member, share}
+use Rattle.theory.specs.Class.{Class, IsClass, Member, Contains, share}
 use Rattle.theory.proofs.Numbers.Power.{pow-dvd}
 use Rattle.theory.proofs.Classes.Cover.{own-member}
 
@@ -15,10 +15,6 @@ pub record Common (p n : ℕ) (c d : Class) : Type 0 where
   pub residue : ℕ
   pub of-first : Member p n c residue
   pub of-second : Member p n d residue
-
--- every member of the second is one of the first
-abbrev pub Contains : ℕ → ℕ → Class → Class → Type 0
-Contains p n c d = (r : ℕ) → Member p n d r → Member p n c r
 
 module _ (p n : ℕ) (hp : 0 < p) where
   -- where the first has the lower level, its residue is the second's modulo its own power

@@ -1,7 +1,7 @@
 -- The member numbers of the list's classes add up to the count.
 use mathlib.Core.Path.{_≡_, refl, sym, ap, ap₂, _∙_}
 use mathlib.Core.Bool.{Bool, true, false}
-use mathlib.Core.List.{List, [], _∷_}
+use mathlib.Core.List.{List, [], _∷_, _++_}
 use Prim.Native.Nat.{ℕ, zero, suc, _+_, _-_, _*_, _%_, _^_, _≤_, _<_}
 use native.Mathlib.Nat.{zero-add, zero-mul, suc-mul, mod-eq-of-lt, mul-add-mod-self-right}
 use native.Mathlib.Omega.{arith}
@@ -9,12 +9,13 @@ use lib.ListN.{length, length-append}
 use Rattle.theory.specs.Lists.{In, here, there}
 use Rattle.theory.specs.Range.{passing}
 use Rattle.theory.specs.Class.{Class, IsClass, Member, isMember, memberCount}
-use Rattle.theory.specs.ClassList.{members, memberTotal}
+use Rattle.theory.specs.ClassList.{levelsOf, members, memberTotal}
 use Rattle.theory.specs.Shortest.{shortest, count}
 use Rattle.theory.proofs.Lists.Names.{in-cast}
 use Rattle.theory.proofs.Lists.NoRepeat.{NoRepeat}
 use Rattle.theory.proofs.Numbers.Power.{pow-split}
 use Rattle.theory.proofs.Range.{passing-same, passing-none, passing-one, passing-or, passing-append}
+use Rattle.theory.proofs.Passing.{passing-most}
 use Rattle.theory.proofs.Classes.Members.{member-congruent, congruent-member, members-sound, rival-members}
 use Rattle.theory.proofs.Classes.Cover.{listed, shortest-rival, shortest-disjoint, shortest-no-repeat}
 
@@ -49,13 +50,13 @@ class-size p n hp c k =
     (p ^ (n - c .level)))
 
 -- the classes of the list share no member
-abbrev Disjoint : ℕ → ℕ → List Class → Type 0
+abbrev pub Disjoint : ℕ → ℕ → List Class → Type 0
 Disjoint p n l = (c d : Class) → In c l → In d l → (r : ℕ) → Member p n c r → Member p n d r → c ≡ d
 
 -- the members of classes that share none are counted class by class
 pub disjoint-total : (p n : ℕ) → 0 < p → (l : List Class) → ((c : Class) → In c l → IsClass p n c) → NoRepeat l → Disjoint p n l
-    → length (passing (members p l) (p ^ n) 0) ≡ memberTotal p n l
-unfolding members memberTotal
+    → length (passing (members p l) (p ^ n) 0) ≡ memberTotal p n (levelsOf l)
+unfolding members memberTotal memberCount
 disjoint-total p n hp [] ok nr apart = ap length (passing-none (λ r. false) (p ^ n) 0 (λ x l b. refl))
 disjoint-total p n hp (c ∷ l) ok nr apart =
     passing-or (isMember p c) (members p l) (p ^ n) 0 clash
@@ -70,8 +71,19 @@ disjoint-total p n hp (c ∷ l) ok nr apart =
         (record { below = small; congruent = member-congruent p c r e })
         (record { below = small; congruent = member-congruent p d r g })) u)
 
+-- so they are no more than there are residues
+pub disjoint-most : (p n : ℕ) → 0 < p → (l : List Class) → ((c : Class) → In c l → IsClass p n c) → NoRepeat l → Disjoint p n l
+    → memberTotal p n (levelsOf l) ≤ p ^ n
+disjoint-most p n hp l ok nr apart = rw (← disjoint-total p n hp l ok nr apart) (passing-most (members p l) (p ^ n) 0)
+
+-- of one class more
+pub total-next : (p n : ℕ) (levels : List ℕ) (t : ℕ) → memberTotal p n (levels ++ (t ∷ [])) ≡ memberTotal p n levels + p ^ (n - t)
+unfolding memberTotal
+total-next p n [] t = omega arith
+total-next p n (s ∷ levels) t = omega (arith, total-next p n levels t)
+
 -- "the root count is the sum of the member numbers"
-pub shortest-total : (S : ℕ → Bool) (p n : ℕ) → 0 < p → memberTotal p n (shortest S p n) ≡ count S p n
+pub shortest-total : (S : ℕ → Bool) (p n : ℕ) → 0 < p → memberTotal p n (levelsOf (shortest S p n)) ≡ count S p n
 unfolding count
 shortest-total S p n hp =
     sym (disjoint-total p n hp (shortest S p n) (λ c u. listed S p n hp c u .is-class) (shortest-no-repeat S p n)

@@ -1,10 +1,9 @@
 -- The tree's list is a permutation of `shortest`.
 use mathlib.Core.Path.{_≡_, refl, sym, ap, ap₂, _∙_, fun-ext}
-use mathlib.Core.Logic.{_⊎_, inl, inr}
 use mathlib.Core.Bool.{Bool, true, false}
 use mathlib.Core.List.{List, [], _∷_, map}
 use Prim.Native.Nat.{ℕ, zero, suc, _+_, _*_, _/_, _%_, _^_, _≤_, _<_}
-use native.Mathlib.Nat.{eq-or-lt-of-le, mul-le-mul-left, pow-suc, pow-succ', pow-zero, suc-sub-suc, le-antisymm}
+use native.Mathlib.Nat.{mul-le-mul-left, pow-suc, pow-succ', pow-zero, suc-sub-suc, le-antisymm}
 use native.Mathlib.Nat.{mod-one, mod-lt, mod-eq-of-lt, div-eq-of-lt, add-mul-mod-self-left, add-mul-div-left, div-add-mod}
 use native.Mathlib.Nat.{div-lt-iff-lt-mul, eq-of-mul-eq-mul-left, add-left-cancel, suc-inj}
 use native.Mathlib.Omega.{arith}
@@ -12,21 +11,20 @@ use lib.Arith.{mod-mul}
 use Rattle.theory.specs.Lists.{In, here, Permutation}
 use Rattle.theory.specs.Range.{allBelow}
 use Rattle.theory.specs.Class.{Class, class, IsClass, Member}
-use Rattle.theory.specs.Shortest.{isWhole, classAt, levelOf, shortest}
-use Rattle.theory.specs.Tree.{concatBelow, branch, deeper, tree}
+use Rattle.theory.specs.Shortest.{isWhole, classAt, shortest}
+use Rattle.theory.specs.inner.Tree.{concatBelow, branch, deeper, tree}
 use Rattle.theory.specs.Rival.{Holds, Rival}
 use Rattle.theory.proofs.Tests.{contradiction}
-use Rattle.theory.proofs.Lists.Names.{in-nil, in-single, in-cast}
+use Rattle.theory.proofs.Lists.Names.{in-nil, in-single}
 use Rattle.theory.proofs.Lists.Map.{in-map, map-in}
 use Rattle.theory.proofs.Lists.NoRepeat.{NoRepeat, no-repeat-map}
 use Rattle.theory.proofs.Lists.Pigeonhole.{pigeonhole}
 use Rattle.theory.proofs.Numbers.Power.{pow-pos}
-use Rattle.theory.proofs.Range.{all-elim, all-intro}
+use Rattle.theory.proofs.Range.{all-intro}
 use Rattle.theory.proofs.Classes.Concat.{in-concat, concat-in, no-repeat-concat}
 use Rattle.theory.proofs.Classes.Equal.{class-equal}
 use Rattle.theory.proofs.Classes.Whole.{whole-elim}
-use Rattle.theory.proofs.Classes.Level.{level-whole}
-use Rattle.theory.proofs.Classes.Cover.{own-member, listed, member-level, shortest-complete}
+use Rattle.theory.proofs.Classes.Entries.{Entry, entry-listed}
 use Rattle.theory.proofs.Classes.Rival.{rival-at-least-as-long, rival-as-long-is-shortest}
 
 -- One step
@@ -88,12 +86,6 @@ whole-top S p l =
 
 -- The entries
 
--- what is known of an entry
-pub record Entry (S : ℕ → Bool) (p l : ℕ) (e : Class) : Type 0 where
-  pub is-class : IsClass p l e
-  pub whole : isWhole S p l e ≡ true
-  pub in-no-larger : (t : ℕ) → t < e .level → isWhole S p l (classAt p (e .residue) t) ≡ false
-
 module _ (p : ℕ) (hp : 0 < p) where
   top-entry : (S : ℕ → Bool) (l : ℕ) → allBelow S (p ^ l) ≡ true → Entry S p l (class 0 0)
   top-entry S l w =
@@ -147,7 +139,7 @@ module _ (p : ℕ) (hp : 0 < p) where
       let (d, v, q) = in-map (deeper p c) (tree (branch S p c) p l) e u in
       rw q (add-mul-mod-self-left c p (d .residue) ∙ mod-eq-of-lt h)
 
-  entries : (S : ℕ → Bool) (l : ℕ) (e : Class) → In e (tree S p l) → Entry S p l e
+  pub entries : (S : ℕ → Bool) (l : ℕ) (e : Class) → In e (tree S p l) → Entry S p l e
   entries S zero e m = go (allBelow S (p ^ 0)) refl
     where
       go : (b : Bool) → allBelow S (p ^ 0) ≡ b → Entry S p 0 e
@@ -220,60 +212,9 @@ module _ (p : ℕ) (hp : 0 < p) where
         no-other = λ e m r h. let k = entries S n e m in whole-elim S p n hp e (k .is-class .level-fits) (k .whole) r h;
       }
 
-  entry-level : (S : ℕ → Bool) (n : ℕ) (e : Class) → Entry S p n e → levelOf S p n (e .residue) ≡ e .level
-  entry-level S n e k = go (eq-or-lt-of-le (hit .1))
-    where
-      l : ℕ
-      l = levelOf S p n (e .residue)
-
-      hit : (isWhole S p n (classAt p (e .residue) l) ≡ true) × (l ≤ e .level)
-      hit = level-whole S p n (e .residue) (e .level) (k .is-class .level-fits) (rw (mod-eq-of-lt (k .is-class .residue-fits)) (k .whole))
-
-      go : (l ≡ e .level) ⊎ (l < e .level) → l ≡ e .level
-      go (inl q) = q
-      go (inr h) = absurd (contradiction (hit .0) (k .in-no-larger l h))
-
-  entry-listed : (S : ℕ → Bool) (n : ℕ) (e : Class) → In e (tree S p n) → In e (shortest S p n)
-  entry-listed S n e m =
-      let k = entries S n e m in
-      let own = own-member p n hp e (k .is-class) in
-      let s = whole-elim S p n hp e (k .is-class .level-fits) (k .whole) (e .residue) own in
-      let h = shortest-complete S p n hp (e .residue) (own .below) s in
-      let t : e .level ≡ h .entry .level =
-      sym (entry-level S n e k) ∙ member-level S p n hp (h .entry) (h .listed) (e .residue) (h .member) in
-      let a : e .residue ≡ h .entry .residue = sym (own .congruent) ∙ ap (λ (x : ℕ). e .residue % p ^ x) t ∙ h .member .congruent in
-      in-cast (class-equal a t) (h .listed)
-
   pub tree-perm : 2 ≤ p → (S : ℕ → Bool) (n : ℕ) → Permutation (tree S p n) (shortest S p n)
   tree-perm two S n =
       rival-as-long-is-shortest S p n hp (tree S p n) (tree-rival S n) two
       (le-antisymm (rival-at-least-as-long S p n hp (tree S p n) (tree-rival S n))
-      (pigeonhole (λ (e : Class). e) (tree S p n) (shortest S p n) (tree-no-repeat S n) (λ e m. (e, entry-listed S n e m, refl))))
-
--- Digit by digit
-
--- all of S is there exactly if all below each digit is
-pub all-digits : (S : ℕ → Bool) (p l : ℕ) → 0 < p → ((c : ℕ) → c < p → allBelow (branch S p c) (p ^ l) ≡ true) → allBelow S (p ^ suc l) ≡
-    true
-all-digits S p l hp h =
-    all-intro S (p ^ suc l) (λ r u.
-    let digits : r % p + p * (r / p) ≡ r = omega (arith, div-add-mod r p) in
-    rw digits at (all-elim (branch S p (r % p)) (p ^ l) (r / p) (h (r % p) (mod-lt r hp))
-    (div-lt-iff-lt-mul hp .1 (rw (pow-suc p l) at u))))
-
-pub digit-all : (S : ℕ → Bool) (p l c : ℕ) → allBelow S (p ^ suc l) ≡ true → c < p → allBelow (branch S p c) (p ^ l) ≡ true
-digit-all S p l c h u =
-    all-intro (branch S p c) (p ^ l) (λ y w. all-elim S (p ^ suc l) (c + p * y) h (omega (arith, pow-succ' p l, mul-le-mul-left p w)))
-
--- a set with no element has no class
-pub tree-empty : (S : ℕ → Bool) (p l : ℕ) → 0 < p → ((y : ℕ) → S y ≡ false) → tree S p l ≡ []
-tree-empty S p l hp none = go (tree S p l) refl
-  where
-    go : (t : List Class) → tree S p l ≡ t → tree S p l ≡ []
-    go [] e = e
-    go (e₀ ∷ t) e =
-        let m : In e₀ (tree S p l) = rw e (here refl) in
-        let k = entries p hp S l e₀ m in
-        absurd (contradiction
-        (whole-elim S p l hp e₀ (k .is-class .level-fits) (k .whole) (e₀ .residue) (own-member p l hp e₀ (k .is-class)))
-        (none (e₀ .residue)))
+      (pigeonhole (λ (e : Class). e) (tree S p n) (shortest S p n) (tree-no-repeat S n) (λ e m.
+      (e, entry-listed S p n hp e (entries S n e m), refl))))

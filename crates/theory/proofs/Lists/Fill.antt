@@ -1,11 +1,11 @@
 -- Lists that are filled from the front, one entry a step: what a loop that writes f of each entry of xs keeps true.
-use mathlib.Core.Path.{_≡_, sym, ap, ap₂, _∙_}
+use mathlib.Core.Path.{_≡_, refl, sym, ap, ap₂, _∙_}
 use mathlib.Core.List.{List, [], _∷_, _++_, map}
-use Prim.Native.Nat.{ℕ, _+_, _-_, _≤_, _<_}
+use Prim.Native.Nat.{ℕ, zero, suc, _+_, _≤_, _<_}
 use native.Mathlib.Numerals.{add-one}
 use native.Mathlib.Omega.{arith}
-use lib.ListN.{length, getD, take, drop, set, length-append, length-map, length-drop}
-use lib.Seq.{getD-set-other, getD-set-same, take-suc, take-suc-set, drop-cons, set-at, append-snoc, length-take-le}
+use lib.ListN.{length, getD, take, drop, set, replicate, length-append, length-map, length-drop}
+use lib.Seq.{getD-set-other, getD-set-same, take-suc, take-suc-set, drop-cons, set-at, append-snoc, length-take-le, take-at}
 use native.Mathlib.Decide.{ℕ-discrete}
 use Rattle.theory.proofs.Lists.Map.{map-append}
 
@@ -18,6 +18,10 @@ take-set-next l i v h = ap (λ (k : ℕ). take k (set l i v)) (add-one i) ∙ ta
 
 pub drop-next : {A : Type 0} (l : List A) (i : ℕ) (d : A) → i < length l → drop i l ≡ getD l i d ∷ drop (i + 1) l
 drop-next l i d h = drop-cons l i d h ∙ ap (λ (k : ℕ). getD l i d ∷ drop k l) (sym (add-one i))
+
+-- the first n entries of l, lent and come back as e
+pub part-back : {A : Type 0} (n : ℕ) (l e : List A) → n ≤ length l → length e ≡ length (take n l) → take n (e ++ drop n l) ≡ e
+part-back n l e h k = take-at e (drop n l) n (k ∙ length-take-le n l h)
 
 module _ {A B : Type 0} (f : A → B) (xs : List A) (i : ℕ) (d : A) (hx : i < length xs) where
   map-take-next : map f (take (i + 1) xs) ≡ map f (take i xs) ++ (f (getD xs i d) ∷ [])
@@ -47,20 +51,24 @@ written-length f xs l₀ i hx hl =
     length-append (map f (take i xs)) (drop i l₀)
     ∙ rw (length-map (take i xs) f, length-take-le i xs hx, length-drop i l₀) (omega arith)
 
+-- an entry after one store
+pub stored : {A : Type 0} (l : List A) (j k : ℕ) (v d x : A) → j < length l → (k ≡ j → v ≡ x) → ((k ≡ j → ⊥) → getD l k d ≡ x)
+    → getD (set l j v) k d ≡ x
+stored l j k v d x h on off = go (ℕ-discrete k j)
+  where
+    go : Dec (k ≡ j) → getD (set l j v) k d ≡ x
+    go (yes q) = rw q (getD-set-same l j v d h) ∙ on q
+    go (no q) = getD-set-other l j k v d q ∙ off q
+
 -- the same, entry by entry: F is what stands at each index below i
 pub entry-next : {A : Type 0} (l : List A) (i : ℕ) (v d : A) (F : ℕ → A) → i < length l → v ≡ F i
     → ((k : ℕ) → k < i → getD l k d ≡ F k) → (k : ℕ) → k < i + 1 → getD (set l i v) k d ≡ F k
-entry-next l i v d F h e below k u = go (ℕ-discrete k i)
-  where
-    go : Dec (k ≡ i) → getD (set l i v) k d ≡ F k
-    go (yes q) = rw q (getD-set-same l i v d h ∙ e)
-    go (no q) = getD-set-other l i k v d q ∙ below k (omega arith)
+entry-next l i v d F h e below k u = stored l i k v d (F k) h (λ q. rw q e) (λ q. below k (omega arith))
 
--- and from the back: F is what stands at each index from i up to n
-pub entry-before : {A : Type 0} (l : List A) (i n : ℕ) (v d : A) (F : ℕ → A) → 0 < i → i - 1 < length l → v ≡ F (i - 1)
-    → ((k : ℕ) → i ≤ k → k < n → getD l k d ≡ F k) → (k : ℕ) → i - 1 ≤ k → k < n → getD (set l (i - 1) v) k d ≡ F k
-entry-before l i n v d F pos h e above k low high = go (ℕ-discrete k (i - 1))
-  where
-    go : Dec (k ≡ i - 1) → getD (set l (i - 1) v) k d ≡ F k
-    go (yes q) = rw q (getD-set-same l (i - 1) v d h ∙ e)
-    go (no q) = getD-set-other l (i - 1) k v d q ∙ above k (omega arith) high
+-- a list that holds d everywhere, cut
+pub replicate-taken : {A : Type 0} (d : A) (n k i : ℕ) → getD (take k (replicate n d)) i d ≡ d
+replicate-taken d zero zero i = refl
+replicate-taken d zero (suc k) i = refl
+replicate-taken d (suc n) zero i = refl
+replicate-taken d (suc n) (suc k) zero = refl
+replicate-taken d (suc n) (suc k) (suc i) = replicate-taken d n k i

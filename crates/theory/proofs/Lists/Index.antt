@@ -24,3 +24,11 @@ same-index (x ∷ l) d nr zero zero hi hj e = refl
 same-index (x ∷ l) d nr zero (suc j) hi hj e = absurd (nr .0 (in-cast e (in-at l j d (omega arith))))
 same-index (x ∷ l) d nr (suc i) zero hi hj e = absurd (nr .0 (in-cast (sym e) (in-at l i d (omega arith))))
 same-index (x ∷ l) d nr (suc i) (suc j) hi hj e = ap suc (same-index l d (nr .1) i j (omega arith) (omega arith) e)
+
+-- and where entries at two indices differ, none is repeated
+pub no-repeat-at : {A : Type 0} (l : List A) (d : A) → ((i j : ℕ) → i < j → j < length l → getD l i d ≡ getD l j d → ⊥) → NoRepeat l
+no-repeat-at [] d h = tt
+no-repeat-at (x ∷ l) d h = (
+  (λ u. let (j, k, e) = index-of l d x u in h 0 (suc j) (omega arith) (omega arith) e),
+  no-repeat-at l d (λ i j u v. h (suc i) (suc j) (omega arith) (omega arith)),
+)

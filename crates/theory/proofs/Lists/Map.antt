@@ -2,6 +2,9 @@
 use mathlib.Core.Path.{_≡_, refl, ap, ap₂}
 use mathlib.Core.Logic.{_⊎_, inl, inr}
 use mathlib.Core.List.{List, [], _∷_, _++_, map}
+use Prim.Native.Nat.{ℕ, zero, suc, _<_}
+use native.Mathlib.Omega.{arith}
+use lib.ListN.{length, getD}
 use Rattle.theory.specs.Lists.{In, here, there}
 use Rattle.theory.proofs.Lists.Names.{in-cons, in-nil}
 
@@ -36,3 +39,9 @@ map-same f g (x ∷ l) h = ap₂ (λ y ys. y ∷ ys) (h x (here refl)) (map-same
 pub map-kept : {A : Type 0} (f : A → A) (l : List A) → ((x : A) → In x l → f x ≡ x) → map f l ≡ l
 map-kept f [] h = refl
 map-kept f (x ∷ l) h = ap₂ (λ y ys. y ∷ ys) (h x (here refl)) (map-kept f l (λ y u. h y (there u)))
+
+-- an entry of the image
+pub getD-map : {A B : Type 0} (f : A → B) (l : List A) (k : ℕ) (a : A) (b : B) → k < length l → getD (map f l) k b ≡ f (getD l k a)
+getD-map f [] k a b h = absurd (omega arith)
+getD-map f (x ∷ l) zero a b h = refl
+getD-map f (x ∷ l) (suc k) a b h = getD-map f l k a b (omega arith)

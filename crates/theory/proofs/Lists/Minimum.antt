@@ -43,3 +43,13 @@ pub minimum-in : (l : List ℕ) (x : ℕ) → In x l → In (minimum l) l
 unfolding minimum
 minimum-in [] x u = absurd (in-nil u)
 minimum-in (a ∷ l) x u = fold-min-in a l
+
+-- a bound that is not below it changes nothing
+fold-min-swap : (a b : ℕ) (l : List ℕ) → min a (foldr min b l) ≡ min b (foldr min a l)
+fold-min-swap a b [] = omega arith
+fold-min-swap a b (c ∷ l) = omega (arith, fold-min-swap a b l)
+
+pub fold-minimum : (b : ℕ) (l : List ℕ) (x : ℕ) → In x l → minimum l ≤ b → foldr min b l ≡ minimum l
+unfolding minimum
+fold-minimum b [] x u h = absurd (in-nil u)
+fold-minimum b (a ∷ l) x u h = omega (arith, fold-min-swap a b l)

@@ -2,7 +2,7 @@
 use mathlib.Core.Path.{_≡_, refl, sym, ap, _∙_}
 use Prim.Native.Nat.{ℕ, suc, _+_, _-_, _*_, _/_, _%_, _<_, _∣_}
 use native.Mathlib.Nat.{add-mod, mod-mod, mul-add-mod-self-right, div-add-mod', mod-mod-of-dvd, mul-comm, mod-eq-zero-of-dvd}
-use native.Mathlib.Nat.{dvd-of-mod-eq-zero, zero-mod, add-mul-mod-self-right}
+use native.Mathlib.Nat.{dvd-of-mod-eq-zero, zero-mod, add-mul-mod-self-right, mod-eq-of-lt}
 use native.Mathlib.Omega.{arith}
 
 -- x ≡ y mod m, as a record, so that x and y can be implicit
@@ -23,6 +23,13 @@ cong-of-eq {m} e = record { same = ap (λ (z : ℕ). z % m) e }
 
 pub cong-mod : (m a : ℕ) → Congruent m (a % m) a
 cong-mod m a = record { same = mod-mod a m }
+
+pub cong-residue : {m x y : ℕ} → x ≡ y % m → Congruent m x y
+cong-residue {m} {x} {y} e = cong-trans (cong-of-eq e) (cong-mod m y)
+
+-- a number below m that differs from x by a multiple of m
+pub residue-is : (m r q x : ℕ) → r < m → x ≡ r + q * m → r ≡ x % m
+residue-is m r q x h e = sym (mod-eq-of-lt h) ∙ sym (add-mul-mod-self-right r q m) ∙ ap (λ (z : ℕ). z % m) (sym e)
 
 pub cong-add : {m a b c d : ℕ} → Congruent m a b → Congruent m c d → Congruent m (a + c) (b + d)
 cong-add {m} {a} {b} {c} {d} e f = record { same = add-mod a c m ∙ rw (e .same, f .same) (sym (add-mod b d m)) }

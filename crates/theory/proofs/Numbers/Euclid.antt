@@ -7,7 +7,8 @@ use native.Mathlib.Nat.{dvd-of-mul-dvd-mul-left, one-dvd, mul-dvd-mul-left, le-o
 use native.Mathlib.Nat.{mod-lt, mod-eq-of-lt, div-add-mod', add-mod-right, mul-add-mod-self-right, mul-div-cancel'}
 use native.Mathlib.Nat.{eq-zero-or-pos, eq-or-lt-of-le, one-mul, pow-zero, pow-succ'}
 use native.Mathlib.Omega.{arith}
-use Rattle.theory.proofs.Numbers.Prime.{Prime, prime-pos}
+use Rattle.theory.specs.Prime.{Prime}
+use Rattle.theory.proofs.Numbers.Prime.{prime-pos}
 
 -- p divides d·b and p·b, so (p mod d)·b; and so on down to 1·b
 descend : (p b : ℕ) → Prime p → (fuel d : ℕ) → d ≤ fuel → 0 < d → d < p → p ∣ d * b → p ∣ b

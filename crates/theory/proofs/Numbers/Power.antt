@@ -1,7 +1,9 @@
 -- Powers of a base.
-use mathlib.Core.Path.{_≡_, ap, _∙_}
-use Prim.Native.Nat.{ℕ, _-_, _*_, _^_, _≤_, _<_, _∣_}
-use native.Mathlib.Nat.{one-le-pow, dvd-mul-left, mul-le-mul-right, pow-le-pow-right, pow-succ', pow-zero}
+use mathlib.Core.Path.{_≡_, sym, ap, _∙_}
+use Prim.Native.Nat.{ℕ, _+_, _-_, _*_, _^_, _≤_, _<_, _∣_}
+use native.Mathlib.Nat.{one-le-pow, dvd-mul-left, mul-le-mul-right, pow-le-pow-left, pow-le-pow-right, pow-suc, pow-succ', pow-zero}
+use native.Mathlib.Numerals.{add-one}
+use native.Mathlib.Decide.{decLt}
 use native.Mathlib.Omega.{arith}
 use lib.Pow.{pow-add}
 
@@ -20,3 +22,15 @@ pow-dvd p {t} {n} h = rw (pow-split p h) (dvd-mul-left (p ^ t) (p ^ (n - t)))
 pub pow-lt : (p : ℕ) → 2 ≤ p → {l m : ℕ} → l < m → p ^ l < p ^ m
 pow-lt p two {l} {m} h =
     omega (arith, pow-le-pow-right {n = p} (omega arith) h, pow-succ' p l, mul-le-mul-right (p ^ l) two, one-le-pow l p (omega arith))
+
+-- one factor more
+pub pow-next : (p t : ℕ) {q : ℕ} → q ≡ p ^ t → q * p ≡ p ^ (t + 1)
+pow-next p t e = ap (λ (x : ℕ). x * p) e ∙ sym (pow-suc p t) ∙ ap (λ (x : ℕ). p ^ x) (sym (add-one t))
+
+-- a power below 2^m has an exponent below m
+pub exponent-lt : (p k m : ℕ) → 2 ≤ p → p ^ k < 2 ^ m → k < m
+exponent-lt p k m two h = go (decLt k m)
+  where
+    go : Dec (k < m) → k < m
+    go (yes l) = l
+    go (no l) = absurd (omega (arith, pow-le-pow-right {n = 2} (omega arith) {i = m} {j = k} (omega arith), pow-le-pow-left two k))

@@ -7,10 +7,10 @@ use native.Mathlib.Nat.{mod-eq-zero-of-dvd, dvd-of-mod-eq-zero, eq-or-lt-of-le, 
 use native.Mathlib.Nat.{mul-le-mul}
 use native.Mathlib.Decide.{decLe}
 use native.Mathlib.Omega.{arith}
-use borrow.Author.Tests.{eqb-true, eq-eqb, leb-true, le-leb, not-true}
+use borrow.Author.Tests.{eqb-true, eq-eqb, ne-eqb, leb-true, le-leb, not-true}
 use lib.Dec.{leb}
 use Rattle.theory.specs.Range.{allBelow}
-use Rattle.theory.specs.Prime.{divides, isPrime, leastDivisor}
+use Rattle.theory.specs.Prime.{Prime, divides, isPrime, leastDivisor}
 use Rattle.theory.proofs.Tests.{contradiction, and-left, and-right, and-intro}
 use Rattle.theory.proofs.Range.{all-elim, all-intro, least-found, least-range, before-least}
 
@@ -22,9 +22,14 @@ pub dvd-divides : (d x : ℕ) → d ∣ x → divides d x ≡ true
 unfolding divides
 dvd-divides d x v = eq-eqb (x % d) 0 (mod-eq-zero-of-dvd d v)
 
-pub record Prime (p : ℕ) : Type 0 where
-  pub two : 2 ≤ p
-  pub only : (d : ℕ) → 2 ≤ d → d < p → ¬ (d ∣ p)
+-- a remainder tells
+pub divides-on : (d x : ℕ) → x % d ≡ 0 → divides d x ≡ true
+unfolding divides
+divides-on d x e = eq-eqb (x % d) 0 e
+
+pub divides-off : (d x : ℕ) → (x % d ≡ 0 → ⊥) → divides d x ≡ false
+unfolding divides
+divides-off d x ne = ne-eqb (x % d) 0 ne
 
 pub prime-pos : {p : ℕ} → Prime p → 0 < p
 prime-pos P = omega (arith, P .two)

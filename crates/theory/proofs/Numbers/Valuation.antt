@@ -5,15 +5,15 @@ use Prim.Native.Nat.{ℕ, zero, suc, _*_, _/_, _^_, _≤_, _<_, _∣_, _%_}
 use native.Mathlib.Nat.{mul-zero, mul-le-mul-right, one-dvd, dvd-trans, mul-dvd-mul-left, dvd-of-mul-dvd-mul-left, mul-div-cancel'}
 use native.Mathlib.Nat.{div-lt-iff-lt-mul, pow-zero}
 use native.Mathlib.Nat.{pow-suc, pow-succ', le-antisymm}
-use native.Mathlib.Nat.{dvd-of-mod-eq-zero, mod-eq-zero-of-dvd}
+use native.Mathlib.Nat.{le-of-dvd}
 use native.Mathlib.Decide.{decLe}
 use native.Mathlib.Omega.{arith}
 use lib.Count.{trailingZeros, under}
 use Rattle.theory.specs.Prime.{divides}
 use Rattle.theory.specs.Degree.{divisions, valuation}
 use Rattle.theory.proofs.Numbers.Power.{pow-dvd, pow-one}
-use Rattle.theory.proofs.Numbers.Prime.{divides-dvd, dvd-divides}
-use Rattle.theory.proofs.Tests.{contradiction, not-holding}
+use Rattle.theory.proofs.Numbers.Prime.{divides-dvd, dvd-divides, divides-on, divides-off}
+use Rattle.theory.proofs.Tests.{contradiction}
 
 divisions-on : (k p x : ℕ) → divides p x ≡ true → divisions (suc k) p x ≡ suc (divisions k p (x / p))
 unfolding divisions
@@ -89,6 +89,19 @@ module _ (p : ℕ) (two : 2 ≤ p) where
       go (yes l) = l
       go (no l) = absurd (f (dvd-trans (p ^ suc v) (pow-dvd p (omega arith)) (valuation-dvd x)))
 
+  pub valuation-lt : (x : ℕ) → 0 < x → valuation p x < x
+  valuation-lt x h = omega (arith, below-power p (valuation p x) two, le-of-dvd h (valuation-dvd x))
+
+  -- p divides p·y once more than y
+  pub valuation-times : (y : ℕ) → 0 < y → valuation p (p * y) ≡ suc (valuation p y)
+  valuation-times y h =
+      let v = valuation p y in
+      sym (valuation-unique (p * y) (suc v) (omega (arith, mul-le-mul-right y two)) (power-times p v y (valuation-dvd y)) (λ d.
+      valuation-most y h (times-power p (suc v) y (omega arith) d)))
+
+  pub valuation-none : (y : ℕ) → 0 < y → ¬ (p ∣ y) → valuation p y ≡ 0
+  valuation-none y h n = sym (valuation-unique y 0 h (rw (pow-zero p) (one-dvd y)) (λ d. n (rw (pow-one p) at d)))
+
 -- For p = 2
 
 trailing-divisions : (f g n : ℕ) → 0 < n → n < 2 ^ f → n ≤ g → trailingZeros f n ≡ divisions g 2 n
@@ -101,9 +114,8 @@ trailing-divisions (suc f) (suc g) n p h l = go (trailing-divisions f g (n / 2))
         → (d : ℕ) → n % 2 ≡ d → under (n % 2) (trailingZeros f (n / 2)) ≡ divisions (suc g) 2 n
     go ih zero e =
         let b : n < 2 ^ f * 2 = rw (pow-suc 2 f) at h in
-        rw e (ap suc (ih (omega arith) (omega arith) (omega arith)) ∙ sym (divisions-on g 2 n (dvd-divides 2 n (dvd-of-mod-eq-zero 2 e))))
-    go ih (suc d) e =
-        rw e (sym (divisions-off g 2 n (not-holding (divides 2 n) (λ w. omega (arith, mod-eq-zero-of-dvd 2 (divides-dvd 2 n w))))))
+        rw e (ap suc (ih (omega arith) (omega arith) (omega arith)) ∙ sym (divisions-on g 2 n (divides-on 2 n e)))
+    go ih (suc d) e = rw e (sym (divisions-off g 2 n (divides-off 2 n (λ w. omega arith))))
 
 -- "for p = 2 that is its number of trailing zero bits"
 pub trailing-zeros : (x : ℕ) → 0 < x → x < 2 ^ 64 → trailingZeros 64 x ≡ valuation 2 x

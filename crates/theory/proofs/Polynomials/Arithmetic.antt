@@ -2,36 +2,11 @@
 use mathlib.Core.Path.{ap, _≡_, refl, sym, ap₂, _∙_}
 use mathlib.Core.List.{map, List, [], _∷_}
 use Prim.Native.Nat.{ℕ, zero, suc, _+_, _*_, _/_, _^_, _∣_}
-use native.Mathlib.Nat.{zero-add, add-zero, mul-zero, pow-zero, pow-succ', dvd-zero, dvd-add, dvd-mul-left-of-dvd, mul-div-cancel'}
+use native.Mathlib.Nat.{zero-add, add-zero, mul-zero, pow-zero, pow-succ', dvd-zero, dvd-add, dvd-mul-left-of-dvd}
+use native.Mathlib.Nat.{mul-div-cancel', zero-div}
 use native.Mathlib.Omega.{arith}
-use lib.ListN.{getD}
 use Rattle.theory.specs.Polynomial.{value}
-
--- the coefficient of y^i
-abbrev pub coef : List ℕ → ℕ → ℕ
-coef f i = getD f i 0
-
--- f + g
-unfoldable pub plus : List ℕ → List ℕ → List ℕ
-plus [] g = g
-plus (a ∷ f) [] = a ∷ f
-plus (a ∷ f) (b ∷ g) = (a + b) ∷ plus f g
-
--- c·f
-unfoldable pub scale : ℕ → List ℕ → List ℕ
-scale c [] = []
-scale c (a ∷ f) = (c * a) ∷ scale c f
-
--- f(q·y)
-unfoldable pub stretch : ℕ → List ℕ → List ℕ
-unfolding scale
-stretch q [] = []
-stretch q (a ∷ f) = a ∷ scale q (stretch q f)
-
--- f with each coefficient divided by q
-unfoldable pub divided : ℕ → List ℕ → List ℕ
-divided q [] = []
-divided q (a ∷ f) = a / q ∷ divided q f
+use Rattle.theory.specs.inner.Polynomial.{coef, plus, scale, stretch, divided}
 
 -- Values
 
@@ -93,3 +68,9 @@ pub divided-map : (q : ℕ) (f : List ℕ) → divided q f ≡ map (λ (a : ℕ)
 unfolding divided
 divided-map q [] = refl
 divided-map q (a ∷ f) = ap (λ xs. a / q ∷ xs) (divided-map q f)
+
+pub coef-divided : (q : ℕ) (f : List ℕ) (i : ℕ) → coef (divided q f) i ≡ coef f i / q
+unfolding divided
+coef-divided q [] i = sym (zero-div q)
+coef-divided q (a ∷ f) zero = refl
+coef-divided q (a ∷ f) (suc i) = coef-divided q f i

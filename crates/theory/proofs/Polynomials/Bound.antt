@@ -3,25 +3,27 @@ use mathlib.Core.Path.{_≡_, refl, sym, ap, _∙_, subst₂}
 use mathlib.Core.Logic.{_⊎_, inl, inr}
 use mathlib.Core.Bool.{Bool, true, false}
 use mathlib.Core.List.{List, [], _∷_}
-use Prim.Native.Nat.{ℕ, zero, suc, _+_, _*_, _^_, _≤_, _<_, _∣_}
+use Prim.Native.Nat.{ℕ, zero, suc, _+_, _-_, _*_, _^_, _≤_, _<_, _∣_}
 use native.Mathlib.Nat.{dvd-zero, dvd-mul-right, dvd-mul-right-of-dvd, dvd-trans, dvd-of-mul-dvd-mul-left, mul-dvd-mul-left, pow-suc}
 use native.Mathlib.Nat.{pow-succ', zero-add, add-zero}
-use native.Mathlib.Decide.{decDvd, decLe}
+use native.Mathlib.Decide.{ℕ-discrete, decDvd, decLe}
 use native.Mathlib.Omega.{arith}
+use borrow.Author.Tests.{eq-eqb, ne-eqb}
+use lib.Dec.{eqb}
 use lib.ListN.{length, length-append, length-map}
 use Rattle.theory.specs.Range.{allBelow}
 use Rattle.theory.specs.Polynomial.{zeros}
 use Rattle.theory.specs.Class.{Class}
-use Rattle.theory.specs.Tree.{concatBelow, branch, deeper, tree}
+use Rattle.theory.specs.inner.Tree.{concatBelow, branch, deeper, tree}
 use Rattle.theory.proofs.Numbers.Power.{pow-pos, pow-one, pow-dvd}
-use Rattle.theory.proofs.Numbers.Prime.{Prime, prime-pos}
+use Rattle.theory.specs.Prime.{Prime}
+use Rattle.theory.proofs.Numbers.Prime.{prime-pos}
 use Rattle.theory.proofs.Range.{all-elim, all-intro}
 use Rattle.theory.proofs.Classes.Tree.{below, tree-whole, tree-none, tree-split}
-use Rattle.theory.proofs.Polynomials.Arithmetic.{coef, divided, scale-divided, coef-scale, coef-stretch, value-zero}
-use Rattle.theory.proofs.Polynomials.Taylor.{taylor, shifted}
+use Rattle.theory.specs.inner.Polynomial.{coef, divided, taylor, shifted, Degree}
+use Rattle.theory.proofs.Polynomials.Arithmetic.{scale-divided, coef-scale, coef-stretch, value-zero}
 use Rattle.theory.proofs.Polynomials.Zeros.{zero-dvd, zeros-branch, zeros-divided, zeros-everything}
-use Rattle.theory.proofs.Polynomials.Quotient.{Degree}
-use Rattle.theory.proofs.Polynomials.Orders.{AtMostOrder, sumFrom, orders-at-most-degree}
+use Rattle.theory.proofs.Polynomials.Orders.{AtMostOrder, sumFrom, sum-append, sum-same, orders-at-most-degree}
 
 -- Lengths of the tree's list
 
@@ -51,6 +53,18 @@ length-concat f zero c = rw (add-zero c) (omega arith)
 length-concat f (suc k) c =
     let e : c + suc k ≡ suc c + k = omega arith in
     ap (λ (x : ℕ). length (concatBelow f x)) e ∙ length-concat f k (suc c) ∙ rw (length-append (concatBelow f c) (f c)) (omega arith)
+
+-- f with n at c
+at : ℕ → ℕ → (ℕ → ℕ) → ℕ → ℕ
+at c n f x = elim (eqb x c) [ true ↦ n | false ↦ f x ]
+
+at-same : (c n : ℕ) (f : ℕ → ℕ) → at c n f c ≡ n
+unfolding at
+at-same c n f = rw (eq-eqb c c refl, at)
+
+at-other : (c n : ℕ) (f : ℕ → ℕ) (x : ℕ) → (x ≡ c → ⊥) → at c n f x ≡ f x
+unfolding at
+at-other c n f x h = rw (ne-eqb x c h, at)
 
 -- q divides all coefficients, or there is a last one that it does not divide
 pub degree? : (q : ℕ) (f : List ℕ) → ((i : ℕ) → q ∣ coef f i) ⊎ ((d : ℕ) × Degree q f d)
@@ -158,3 +172,25 @@ module _ (p : ℕ) (P : Prime p) where
   -- the classes below a digit are no more than the order there
   pub below-at-most-order : (e l : ℕ) (f : List ℕ) (c : ℕ) → 0 < e → AtMostOrder p (length (below (zeros f p e) p l c)) (taylor c f)
   below-at-most-order e l f c h = below-order l (bound l) e f c h
+
+  -- the classes below the digits before c, with a number that is at most the order at c, are at most the degree
+  pub before-digit : (e l d c n : ℕ) (f : List ℕ) → 0 < e → Degree p f d → c < p → AtMostOrder p n (taylor c f)
+      → length (concatBelow (below (zeros f p e) p l) c) + n ≤ d
+  unfolding concatBelow sumFrom
+  before-digit e l d c n f pos D h b =
+      let size : ℕ → ℕ = λ x. length (below (zeros f p e) p l x) in
+      let t = at c n size in
+      let all : c + suc (p - suc c) ≡ p = omega arith in
+      let front : sumFrom t 0 c ≡ sumFrom size 0 c = sum-same t size c 0 (λ x u v. at-other c n size x (λ e. omega arith)) in
+      omega (
+        arith,
+        rw (all, zero-add c) at (sum-append t c (suc (p - suc c)) 0),
+        front,
+        at-same c n size,
+        rw (zero-add c) at (length-concat (below (zeros f p e) p l) c 0),
+        orders-at-most-degree p P t d f D (λ x u. order x (ℕ-discrete x c)),
+      )
+    where
+      order : (x : ℕ) → Dec (x ≡ c) → AtMostOrder p (at c n (λ y. length (below (zeros f p e) p l y)) x) (taylor x f)
+      order x (yes q) i w = rw (q, at-same c n) (b i (λ u. w (rw q u)))
+      order x (no q) i w = rw (at-other c n (λ y. length (below (zeros f p e) p l y)) x q) (below-at-most-order e l f x pos i w)

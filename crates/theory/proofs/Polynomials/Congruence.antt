@@ -7,7 +7,8 @@ use lib.Dec.{eqb}
 use Rattle.theory.specs.Prime.{divides}
 use Rattle.theory.specs.Polynomial.{value, zeros}
 use Rattle.theory.proofs.Numbers.Congruence.{Congruent, cong-refl, cong-sym, cong-trans, cong-of-eq, cong-add, cong-mul, cong-mod}
-use Rattle.theory.proofs.Polynomials.Arithmetic.{coef}
+use Rattle.theory.proofs.Numbers.Congruence.{cong-dvd}
+use Rattle.theory.specs.inner.Polynomial.{coef, Degree}
 
 pub cong-argument : {m : ℕ} (f : List ℕ) {x y : ℕ} → Congruent m x y → Congruent m (value f x) (value f y)
 unfolding value
@@ -39,3 +40,8 @@ zeros-periodic f p n r = ap (λ (z : ℕ). eqb z 0) (cong-argument f (cong-mod (
 pub zeros-same : (f g : List ℕ) (p n : ℕ) → SameModulo (p ^ n) f g → zeros f p n ≡ zeros g p n
 unfolding zeros divides
 zeros-same f g p n h = fun-ext (λ r. ap (λ (z : ℕ). eqb z 0) (cong-coefficients f g r h .same))
+
+-- a degree modulo m is one of f and g both
+pub degree-same : {m d : ℕ} {f g : List ℕ} → SameModulo m f g → Degree m g d → Degree m f d
+degree-same {m} {d} same D =
+    record { lead = λ u. D .lead (cong-dvd (same d) u); above = λ i h. cong-dvd (cong-sym (same i)) (D .above i h) }

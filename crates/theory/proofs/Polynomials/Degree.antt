@@ -2,8 +2,8 @@
 use mathlib.Core.Path.{_≡_, refl, sym, ap, subst}
 use mathlib.Core.Logic.{_⊎_, inl, inr}
 use mathlib.Core.Bool.{Bool, true, false, not}
-use mathlib.Core.List.{List, [], _∷_, map}
-use Prim.Native.Nat.{ℕ, suc, _*_, _/_, _^_, _≤_, _<_, _∣_}
+use mathlib.Core.List.{List, [], _∷_, map, foldr}
+use Prim.Native.Nat.{ℕ, suc, _*_, _/_, _^_, _≤_, _<_, _∣_, min}
 use native.Mathlib.Nat.{dvd-zero, dvd-trans, dvd-of-mul-dvd-mul-left, mul-dvd-mul-left, mul-div-cancel', eq-zero-or-pos, le-of-dvd, pow-suc}
 use native.Mathlib.Nat.{pow-le-pow-right, zero-div}
 use native.Mathlib.Decide.{decLe}
@@ -17,13 +17,12 @@ use Rattle.theory.specs.Degree.{valuation, nonzero, leastValuation, some
 use Rattle.theory.proofs.Tests.{contradiction, not-holding}
 use Rattle.theory.proofs.Lists.Names.{in-cons, in-nil}
 use Rattle.theory.proofs.Lists.Map.{in-map, map-in}
-use Rattle.theory.proofs.Lists.Minimum.{minimum-le, minimum-in}
+use Rattle.theory.proofs.Lists.Minimum.{minimum-le, minimum-in, fold-minimum}
 use Rattle.theory.proofs.Numbers.Power.{pow-dvd, pow-pos}
 use Rattle.theory.proofs.Numbers.Prime.{divides-dvd, dvd-divides}
 use Rattle.theory.proofs.Numbers.Valuation.{valuation-dvd, valuation-most}
-use Rattle.theory.proofs.Polynomials.Arithmetic.{coef}
+use Rattle.theory.specs.inner.Polynomial.{coef, Degree}
 use Rattle.theory.proofs.Polynomials.Highest.{some-in, coef-in, highest-passes, above-highest, highest-lt, not-all-zero}
-use Rattle.theory.proofs.Polynomials.Quotient.{Degree}
 
 -- The least valuation
 
@@ -99,12 +98,12 @@ module _ (p : ℕ) (two : 2 ≤ p) (f : List ℕ) where
         let w = in-nonzero f a v in
         (a, w .0, w .1, sym e)
 
-    -- a number that is at most each valuation and is one of them is s
-    pub least-valuation-is : (v : ℕ) → ((a : ℕ) → In a f → 0 < a → v ≤ valuation p a)
-        → (a : ℕ) → In a f → 0 < a → valuation p a ≡ v → v ≡ leastValuation p f
-    least-valuation-is v below a u h e =
-        let (b, w, k, q) = attained in
-        omega (arith, below b w k, least-valuation-le a u h)
+    -- s is what the valuations lower a bound to that is not below s
+    pub least-valuation-fold : (b : ℕ) → leastValuation p f ≤ b → foldr min b (map (valuation p) (nonzero f)) ≡ leastValuation p f
+    unfolding leastValuation
+    least-valuation-fold b h =
+        let (a, u, k) = not-all-zero f some-left in
+        fold-minimum b (map (valuation p) (nonzero f)) (valuation p a) (map-in (valuation p) (nonzero f) a (nonzero-in f a u k)) h
 
     abbrev pub test : ℕ → Bool
     test a = not (divides p (a / p ^ leastValuation p f))
@@ -137,6 +136,24 @@ module _ (p : ℕ) (two : 2 ≤ p) (f : List ℕ) where
     pub degree-bound-lt : degreeBound p f < length f
     unfolding degreeBound
     degree-bound-lt = highest-lt test f some-passes
+
+    -- and no other degree modulo a power of p is lower
+    pub degree-bound-least : (k d : ℕ) → Degree (p ^ suc k) f d → degreeBound p f ≤ d
+    degree-bound-least k d E = go (decLe (degreeBound p f) d)
+      where
+        s : ℕ
+        s = leastValuation p f
+
+        -- as p^s divides all coefficients, k is not below s
+        low : Dec (suc k ≤ s) → s < suc k
+        low (yes l) = absurd (E .lead (dvd-trans (p ^ suc k) (pow-dvd p l) (least-valuation-dvd d)))
+        low (no l) = omega arith
+
+        go : Dec (degreeBound p f ≤ d) → degreeBound p f ≤ d
+        go (yes l) = l
+        go (no l) =
+            absurd (degree-bound-degree .lead
+            (dvd-trans (p ^ suc s) (pow-dvd p (low (decLe (suc k) s))) (E .above (degreeBound p f) (omega arith))))
 
     -- where the coefficients are below p^n, s is below n
     pub least-valuation-lt : (n : ℕ) → ((a : ℕ) → In a f → a < p ^ n) → leastValuation p f < n

@@ -5,7 +5,7 @@ use Prim.Native.Nat.{ℕ, zero, suc, _+_, _*_}
 use native.Mathlib.Omega.{arith}
 use native.Mathlib.Nat.{add-zero}
 use Rattle.theory.specs.Polynomial.{weighted, derivative}
-use Rattle.theory.proofs.Polynomials.Arithmetic.{coef}
+use Rattle.theory.specs.inner.Polynomial.{coef}
 
 coef-weighted : (j : ℕ) (f : List ℕ) (k : ℕ) → coef (weighted j f) k ≡ (j + k) * coef f k
 unfolding weighted

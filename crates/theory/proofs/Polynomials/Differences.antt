@@ -6,14 +6,10 @@ use native.Mathlib.Nat.{dvd-zero, dvd-add, dvd-mul-right, dvd-mul-left-of-dvd, a
 use native.Mathlib.Omega.{arith}
 use lib.ListN.{length}
 use Rattle.theory.specs.Polynomial.{value}
+use Rattle.theory.specs.inner.Polynomial.{difference}
 use Rattle.theory.proofs.Numbers.Congruence.{Congruent, cong-trans, cong-of-eq}
 
--- the j-th difference of F at c: F(c) for j = 0, then the difference at c + 1 less the one at c
-unfoldable pub difference : ℕ → ℕ → (ℕ → ℕ) → ℕ → ℕ
-difference p zero F c = F c
-difference p (suc j) F c = difference p j F (suc c) + (p - 1) * difference p j F c
-
--- so the difference at c + 1 is the one at c plus the next
+-- the difference at c + 1 is the one at c plus the next
 pub difference-step : (p j : ℕ) (F : ℕ → ℕ) (c : ℕ) → 0 < p
     → Congruent p (difference p j F (suc c)) (difference p j F c + difference p (suc j) F c)
 unfolding difference

@@ -7,13 +7,13 @@ use native.Mathlib.Omega.{arith}
 use lib.ListN.{length}
 use native.Mathlib.Nat.{add-zero}
 use Rattle.theory.specs.Range.{passing}
-use Rattle.theory.specs.Prime.{divides}
+use Rattle.theory.specs.Prime.{divides, Prime}
 use Rattle.theory.specs.Polynomial.{value}
-use Rattle.theory.proofs.Numbers.Prime.{Prime, divides-dvd}
+use Rattle.theory.proofs.Numbers.Prime.{divides-dvd}
 use Rattle.theory.proofs.Range.{passing-on, passing-off}
-use Rattle.theory.proofs.Polynomials.Arithmetic.{coef, value-zero}
-use Rattle.theory.proofs.Polynomials.Taylor.{taylor, value-taylor}
-use Rattle.theory.proofs.Polynomials.Quotient.{Degree}
+use Rattle.theory.specs.inner.Polynomial.{coef, taylor, Degree}
+use Rattle.theory.proofs.Polynomials.Arithmetic.{value-zero}
+use Rattle.theory.proofs.Polynomials.Taylor.{value-taylor}
 use Rattle.theory.proofs.Polynomials.Orders.{sumFrom, AtMostOrder, orders-at-most-degree}
 
 -- 1 where the test passes

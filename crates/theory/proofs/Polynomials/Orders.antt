@@ -6,11 +6,10 @@ use native.Mathlib.Nat.{dvd-add-iff-right, add-zero}
 use native.Mathlib.Decide.{decDvd}
 use native.Mathlib.Omega.{arith}
 use Rattle.theory.specs.Polynomial.{value}
-use Rattle.theory.proofs.Numbers.Prime.{Prime}
+use Rattle.theory.specs.Prime.{Prime}
 use Rattle.theory.proofs.Numbers.Euclid.{digit-times}
-use Rattle.theory.proofs.Polynomials.Arithmetic.{coef}
-use Rattle.theory.proofs.Polynomials.Taylor.{taylor}
-use Rattle.theory.proofs.Polynomials.Quotient.{quotient, quotient-zero, quotient-suc, Degree, quotient-degree, constant-no-zero}
+use Rattle.theory.specs.inner.Polynomial.{coef, taylor, Degree}
+use Rattle.theory.proofs.Polynomials.Quotient.{quotient, quotient-zero, quotient-suc, quotient-degree, constant-no-zero}
 
 -- f c + f (c + 1) + …, k of them
 unfoldable pub sumFrom : (ℕ → ℕ) → ℕ → ℕ → ℕ

@@ -5,8 +5,9 @@ use Prim.Native.Nat.{ℕ, zero, suc, pred, _+_, _*_, _≤_, _<_, _∣_}
 use native.Mathlib.Nat.{dvd-zero, dvd-add-iff-left, dvd-mul-left-of-dvd}
 use native.Mathlib.Omega.{arith}
 use Rattle.theory.specs.Polynomial.{value}
-use Rattle.theory.proofs.Polynomials.Arithmetic.{coef, dvd-value}
-use Rattle.theory.proofs.Polynomials.Taylor.{taylor, taylor-zero, taylor-suc}
+use Rattle.theory.specs.inner.Polynomial.{coef, taylor, Degree}
+use Rattle.theory.proofs.Polynomials.Arithmetic.{dvd-value}
+use Rattle.theory.proofs.Polynomials.Taylor.{coef-taylor}
 
 -- f is value f c, and y − c times this
 unfoldable pub quotient : ℕ → List ℕ → List ℕ
@@ -19,7 +20,7 @@ pub quotient-zero : (c k : ℕ) (f : List ℕ) → coef (taylor (c + k) f) 0 ≡
 unfolding value quotient taylor
 quotient-zero c k [] = omega arith
 quotient-zero c k (a ∷ f) =
-    taylor-zero (c + k) a f ∙ rw (taylor-zero (c + k) (value f c) (quotient c f), quotient-zero c k f) (omega arith)
+    coef-taylor (c + k) a f 0 ∙ rw (coef-taylor (c + k) (value f c) (quotient c f) 0, quotient-zero c k f) (omega arith)
 
 pub quotient-suc : (c k : ℕ) (f : List ℕ) (i : ℕ)
     → coef (taylor (c + k) f) (suc i) ≡ coef (taylor (c + k) (quotient c f)) i + k * coef (taylor (c + k) (quotient c f)) (suc i)
@@ -28,13 +29,14 @@ quotient-suc c k [] i = omega arith
 quotient-suc c k (a ∷ f) zero =
     let q = quotient c f in
     let b = value f c in
-    taylor-suc (c + k) a f 0
-    ∙ rw (taylor-zero (c + k) b q, taylor-suc (c + k) b q 0, quotient-zero c k f, quotient-suc c k f 0) (omega arith)
+    coef-taylor (c + k) a f 1
+    ∙ rw (coef-taylor (c + k) b q 0, coef-taylor (c + k) b q 1, quotient-zero c k f, quotient-suc c k f 0) (omega arith)
 quotient-suc c k (a ∷ f) (suc i) =
     let q = quotient c f in
     let b = value f c in
-    taylor-suc (c + k) a f (suc i)
-    ∙ rw (taylor-suc (c + k) b q i, taylor-suc (c + k) b q (suc i), quotient-suc c k f i, quotient-suc c k f (suc i)) (omega arith)
+    coef-taylor (c + k) a f (suc (suc i))
+    ∙ rw (coef-taylor (c + k) b q (suc i), coef-taylor (c + k) b q (suc (suc i)), quotient-suc c k f i, quotient-suc c k f (suc i))
+    (omega arith)
 
 -- The quotient's own coefficients
 
@@ -48,11 +50,6 @@ unfolding quotient
 coef-quotient c [] i = omega arith
 coef-quotient c (a ∷ f) zero = value-quotient c f
 coef-quotient c (a ∷ f) (suc i) = coef-quotient c f i
-
--- the degree of f modulo q is d: q does not divide the coefficient of index d and divides all above it
-pub record Degree (q : ℕ) (f : List ℕ) (d : ℕ) : Type 0 where
-  pub lead : ¬ (q ∣ coef f d)
-  pub above : (i : ℕ) → d < i → q ∣ coef f i
 
 quotient-above : (q c : ℕ) (f : List ℕ) (d : ℕ) → ((i : ℕ) → d < i → q ∣ coef f i) → (i : ℕ) → d ≤ i → q ∣ coef (quotient c f) i
 unfolding quotient

@@ -3,7 +3,6 @@ use mathlib.Core.Path.{_≡_, sym}
 use mathlib.Core.Bool.{Bool, true, false}
 use mathlib.Core.List.{List, [], _∷_}
 use Prim.Native.Nat.{ℕ, _^_, _≤_, _<_}
-use native.Mathlib.Nat.{dvd-zero}
 use native.Mathlib.Omega.{arith}
 use lib.IntN.{ℤ}
 use lib.ListN.{length, length-map}
@@ -12,19 +11,18 @@ use Rattle.theory.specs.Polynomial.{reduce, reduced, roots}
 use Rattle.theory.specs.Degree.{leastValuation, degreeBound, allZero}
 use Rattle.theory.specs.Class.{class}
 use Rattle.theory.specs.Shortest.{shortest}
-use Rattle.theory.specs.Tree.{tree}
+use Rattle.theory.specs.inner.Tree.{tree}
 use Rattle.theory.proofs.Lists.Names.{in-nil}
 use Rattle.theory.proofs.Lists.Map.{in-map}
 use Rattle.theory.proofs.Lists.Permutation.{perm-length}
 use Rattle.theory.proofs.Numbers.Power.{pow-pos}
-use Rattle.theory.proofs.Numbers.Prime.{Prime, prime-pos}
+use Rattle.theory.specs.Prime.{Prime}
+use Rattle.theory.proofs.Numbers.Prime.{prime-pos}
 use Rattle.theory.proofs.Range.{all-intro}
 use Rattle.theory.proofs.Classes.Rising.{rising-perm, shortest-rising}
 use Rattle.theory.proofs.Classes.Tree.{tree-whole, tree-perm}
-use Rattle.theory.proofs.Polynomials.Arithmetic.{dvd-value}
-use Rattle.theory.proofs.Polynomials.Zeros.{dvd-zero-at}
+use Rattle.theory.proofs.Polynomials.Zeros.{zeros-all}
 use Rattle.theory.proofs.Polynomials.Bound.{tree-at-most}
-use Rattle.theory.proofs.Polynomials.Highest.{all-zero-coef}
 use Rattle.theory.proofs.Polynomials.Degree.{degree-bound-degree, degree-bound-lt, least-valuation-lt}
 use Rattle.theory.proofs.Polynomials.Signed.{reduce-lt}
 
@@ -43,9 +41,7 @@ reduced-lt f p n hp a u = let (z, v, e) = in-map (reduce (p ^ n)) f a u in rw e 
 -- where pⁿ divides all coefficients, everything is a root
 pub all-zero-roots : (f : List ℤ) (p n : ℕ) → allZero (reduced f p n) ≡ true → (r : ℕ) → roots f p n r ≡ true
 unfolding roots
-all-zero-roots f p n e r =
-    dvd-zero-at (reduced f p n) p n r
-    (dvd-value (p ^ n) (reduced f p n) r (λ i. rw (all-zero-coef (reduced f p n) e i) (dvd-zero (p ^ n))))
+all-zero-roots f p n e r = zeros-all (reduced f p n) p n e r
 
 -- "If all are zero, everything is a root"
 pub all-zero-list : (f : List ℤ) (p n : ℕ) → 2 ≤ p → allZero (reduced f p n) ≡ true → shortest (roots f p n) p n ≡ class 0 0 ∷ []

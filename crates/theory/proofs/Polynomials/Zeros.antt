@@ -1,20 +1,25 @@
--- The zeros of a polynomial modulo a power of p: below a digit, after a division by p, and where a digit holds none.
+-- The zeros of a polynomial modulo a power of p: below a digit, after a division by p, at 0, and where there are none or all.
 use mathlib.Core.Path.{_≡_, sym, ap, _∙_, subst₂, fun-ext}
 use mathlib.Core.Bool.{true, false}
 use mathlib.Core.List.{List}
 use Prim.Native.Nat.{ℕ, _+_, _*_, _^_, _<_, _∣_}
-use native.Mathlib.Nat.{mul-dvd-mul-left, dvd-of-mul-dvd-mul-left, dvd-trans, add-mul-mod-self-left, one-dvd, pow-zero}
+use native.Mathlib.Nat.{mul-dvd-mul-left, dvd-of-mul-dvd-mul-left, dvd-trans, add-mul-mod-self-left, one-dvd, dvd-zero, pow-zero}
+use native.Mathlib.Nat.{mod-eq-of-lt}
+use lib.Dec.{eqb}
 use lib.Pow.{pow-add}
 use Rattle.theory.specs.Prime.{divides}
 use Rattle.theory.specs.Polynomial.{value, zeros}
-use Rattle.theory.specs.Tree.{branch}
+use Rattle.theory.specs.Degree.{allZero}
+use Rattle.theory.specs.inner.Tree.{branch}
 use Rattle.theory.proofs.Tests.{same-test, not-holding}
 use Rattle.theory.proofs.Numbers.Power.{pow-pos, pow-one, pow-dvd}
 use Rattle.theory.proofs.Numbers.Prime.{divides-dvd, dvd-divides}
 use Rattle.theory.proofs.Numbers.Congruence.{cong-dvd}
-use Rattle.theory.proofs.Polynomials.Arithmetic.{coef, divided, scale-divided, value-scale}
-use Rattle.theory.proofs.Polynomials.Taylor.{shifted, value-shifted}
+use Rattle.theory.specs.inner.Polynomial.{coef, divided, shifted}
+use Rattle.theory.proofs.Polynomials.Arithmetic.{scale-divided, value-scale, value-zero, dvd-value}
+use Rattle.theory.proofs.Polynomials.Taylor.{value-shifted}
 use Rattle.theory.proofs.Polynomials.Congruence.{cong-argument}
+use Rattle.theory.proofs.Polynomials.Highest.{all-zero-coef}
 
 pub zero-dvd : (f : List ℕ) (p n y : ℕ) → zeros f p n y ≡ true → p ^ n ∣ value f y
 unfolding zeros
@@ -52,3 +57,12 @@ no-zero-below f p e c h none y =
 -- modulo p^0 everything is a zero
 pub zeros-everything : (f : List ℕ) (p y : ℕ) → zeros f p 0 y ≡ true
 zeros-everything f p y = dvd-zero-at f p 0 y (rw (pow-zero p) (one-dvd (value f y)))
+
+-- and where all coefficients are zero
+pub zeros-all : (f : List ℕ) (p n : ℕ) → allZero f ≡ true → (y : ℕ) → zeros f p n y ≡ true
+zeros-all f p n z y = dvd-zero-at f p n y (dvd-value (p ^ n) f y (λ i. rw (all-zero-coef f z i) (dvd-zero (p ^ n))))
+
+-- 0 is a zero exactly if the constant coefficient, reduced, is 0
+pub zeros-constant : (f : List ℕ) (p n : ℕ) → coef f 0 < p ^ n → zeros f p n 0 ≡ eqb (coef f 0) 0
+unfolding zeros divides
+zeros-constant f p n h = rw (value-zero f, mod-eq-of-lt h)

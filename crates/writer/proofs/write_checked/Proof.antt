@@ -7,9 +7,10 @@ use Rattle.refusal.specs.declared.Refusal.the-variants.{BufferTooSmall}
 use Rattle.refusal.specs.Rules.{rule12}
 use Rattle.refusal.proofs.Rules.{rule12-refuses, rule12-passes}
 use Rattle.classes.specs.Rule7.{classesOf}
-use Rattle.writer.specs.Place.{laid}
+use Rattle.writer.specs.inner.Place.{laid}
 use Rattle.writer.specs.Output.{line, outputText}
 use Rattle.writer.proofs.Answers.{refused-answer, refused-text, passed-answer, passed-text}
+use Rattle.writer.proofs.Checked.{total-fits}
 use Rattle.writer.proofs.Listing.{output-laid}
 use Rattle.writer.proofs.write_checked.Statement.{statement}
 use Rattle.writer.proofs.write_checked.Tie as tie
@@ -59,7 +60,8 @@ returns-2 c =
       passed-answer v (45 * (k + 1)) e,
       output-laid (a .p) (a .n) (a .residues .now) (a .levels .now) (a .marks .now) (s .pre) l (first .put-line .last .0)
           (last .put-classes .last .1 .1 .1 .1 .1 .0) (test .if1 .left)
-          (first .put-line .ensures ∙ ap (λ (roots : ℕ). laid 0 (line (a .p) (a .n) k roots) l) (total .member-total .ensures))
+          (first .put-line .ensures ∙ ap (λ (roots : ℕ). laid 0 (line (a .p) (a .n) k roots) l)
+          (total .member-total .ensures ∙ total-fits (a .p) (a .n) (a .residues .now) (a .levels .now) (a .marks .now) (s .pre)))
           (last .put-classes .ensures)
           ∙ passed-text v new l e,
     )

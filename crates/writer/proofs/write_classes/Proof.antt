@@ -5,11 +5,12 @@ use borrow.Author.Needs.{needs}
 use lib.ListN.{length}
 use Rattle.refusal.specs.Rules.{Verdict}
 use Rattle.classes.specs.Rule7.{classesOf}
-use Rattle.classes.proofs.MarkedChecks.{MarkedChecked, marked-accepted}
+use Rattle.classes.specs.inner.Usable.{UsableMarked}
+use Rattle.classes.proofs.MarkedChecks.{marked-accepted}
 use Rattle.writer.specs.Output.{outputText}
 use Rattle.writer.specs.Written.{bytesOr, filled, writerVerdict}
 use Rattle.writer.proofs.Answers.{refused-answer, refused-text}
-use Rattle.writer.proofs.Checked.{lists-fit, verdict-12, verdict-refuses, written-answer}
+use Rattle.writer.proofs.Checked.{verdict-12, verdict-refuses, written-answer}
 use Rattle.writer.proofs.write_classes.Statement.{statement}
 use Rattle.writer.proofs.write_classes.Tie as tie
 
@@ -19,7 +20,7 @@ start c = c .before .before .before .before .before
 
 accepted : (c : tie.After-enum-told)
     → (let a = start (c .before .before) .args in
-    MarkedChecked (a .p) (a .n) (a .residues .now) (a .levels .now) (a .marks .now) (c .enum-told .given .0 .0))
+    UsableMarked (a .p) (a .n) (a .residues .now) (a .levels .now) (a .marks .now) (c .enum-told .given .0 .0))
 accepted c =
     let b = c .before .before in
     let a = start b .args in
@@ -36,7 +37,8 @@ enum-told c = search needs
 write-checked-requires : tie.Need-write-checked-requires
 write-checked-requires c κs =
     let a = start (c .before .before .before) .args in
-    lists-fit (a .p) (a .n) (a .residues .now) (a .levels .now) (a .marks .now) (c .before .enum-told .given .0 .0) (accepted (c .before))
+    let C = accepted (c .before) in
+    rw (C .modulus .power) at C
 
 enum-known-r : tie.Need-enum-known-r
 enum-known-r c = search needs
@@ -52,7 +54,7 @@ returns c =
     let residues = a .residues .now in
     let bytes = length (a .text .now) in
     let new = outputText (a .p) (a .n) (classesOf residues (a .levels .now)) (a .marks .now) in
-    let v = verdict-12 (a .p) (a .n) residues (a .levels .now) (a .marks .now) (told .enum-told .given .0 .0) bytes (accepted told) in (
+    let v = verdict-12 (a .p) (a .n) residues (a .levels .now) (a .marks .now) bytes (accepted told) in (
       call .write-checked .ensures .0
           ∙ ap (λ (w : Verdict). bytesOr w (45 * (length residues + 1))) v
           ∙ written-answer (a .p) (a .n) residues (a .levels .now) (a .marks .now) bytes,

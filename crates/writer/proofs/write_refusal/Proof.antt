@@ -5,7 +5,7 @@ use borrow.Author.Needs.{needs}
 use lib.ListN.{length, length-set}
 use Rattle.refusal.specs.declared.Refusal.the-variants.{BufferTooSmall}
 use Rattle.columns.specs.Column.{column}
-use Rattle.writer.specs.Place.{laid}
+use Rattle.writer.specs.inner.Place.{laid}
 use Rattle.writer.specs.Output.{refusalLine}
 use Rattle.writer.specs.Written.{refusalVerdict}
 use Rattle.writer.proofs.Line.{refusal-laid}

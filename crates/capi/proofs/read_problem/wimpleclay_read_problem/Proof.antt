@@ -26,7 +26,7 @@ put-row-requires c κs =
     let row = told .before .before in
     let a = row .before .before .before .args in
     let g = told .enum-told2 .given in
-    accepted-row (row .before .read-problem .result .answer) (length (a .coefficients .now))
+    accepted-row (row .before .read-problem .result .read) (length (a .coefficients .now))
     (g .0 .0) (g .0 .1 .0) (g .0 .1 .1 .0) (g .0 .1 .1 .1 .0) (sym (g .1) ∙ row .check-row .ensures)
 
 read-answer-requires : tie.Need-read-answer-requires

@@ -1,14 +1,13 @@
 -- `classes::fault::contained` meets its contract. The invariant: q is p^s, and none of the first i entries contains a at a level below s.
-use mathlib.Core.Path.{_≡_, refl, sym, ap, _∙_}
+use mathlib.Core.Path.{_≡_, refl, sym}
 use mathlib.Core.Bool.{true, false}
-use Prim.Native.Nat.{ℕ, _+_, _-_, _*_, _%_, _^_, _≤_, _<_}
-use native.Mathlib.Nat.{pow-zero, pow-suc, pow-le-pow-right}
-use native.Mathlib.Numerals.{add-one}
+use Prim.Native.Nat.{ℕ, _+_, _-_, _%_, _^_, _≤_, _<_}
+use native.Mathlib.Nat.{pow-zero, pow-le-pow-right}
 use native.Mathlib.Omega.{arith}
 use borrow.Author.Count.{below-more}
 use borrow.Author.Needs.{needs}
-use Rattle.theory.proofs.Numbers.Power.{pow-pos}
-use Rattle.classes.specs.Search.{listedBefore}
+use Rattle.theory.proofs.Numbers.Power.{pow-pos, pow-next}
+use Rattle.classes.specs.inner.Search.{listedBefore}
 use Rattle.classes.proofs.Searching.{listed-level, contained-at, contained-nowhere}
 use Rattle.classes.proofs.fault.contained.Statement.{statement}
 use Rattle.classes.proofs.fault.contained.Tie as tie
@@ -22,9 +21,6 @@ abbrev μ-loop : tie.MeasureT-loop
 
 loop-holds : tie.Need-loop-holds Inv-loop μ-loop
 loop-holds c = (refl, omega arith, sym (pow-zero (c .before .before .args .p)), λ k h. absurd (omega arith))
-
-next-power : (p s q : ℕ) → q ≡ p ^ s → q * p ≡ p ^ (s + 1)
-next-power p s q e = ap (λ (x : ℕ). x * p) e ∙ sym (pow-suc p s) ∙ ap (λ (x : ℕ). p ^ x) (sym (add-one s))
 
 rem-listed : tie.Need-rem-listed Inv-loop μ-loop
 rem-listed c =
@@ -52,7 +48,7 @@ mul-q c =
     record {
       fits = omega (
         arith,
-        next-power p s (b .loop .q) (b .loop .inv .2),
+        pow-next p s (b .loop .inv .2),
         pow-le-pow-right {n = p} (omega (arith, b .before .before .before .pre .3)) {i = s + 1} {j = t} (omega arith),
         b .before .before .before .pre .4,
       );
@@ -71,7 +67,7 @@ loop-again c =
     let s = b .loop .s in (
       refl,
       omega arith,
-      next-power (a .p) s (b .loop .q) (b .loop .inv .2),
+      pow-next (a .p) s (b .loop .inv .2),
       below-more (λ (k : ℕ). listedBefore (a .residues .now) (a .levels .now) (a .i) (a .a % a .p ^ k) k ≡ false) s (b .loop .inv .3)
           (listed-level (a .p) (a .residues .now) (a .levels .now) (a .i) (a .a) (b .loop .s) (b .loop .q) (c .before .listed .result) false
           (b .loop .inv .2) (c .before .listed .ensures) (c .if1 .left)),

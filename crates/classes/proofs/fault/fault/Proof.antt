@@ -1,10 +1,11 @@
 -- `classes::fault::fault` meets its contract.
-use mathlib.Core.Path.{sym}
+use mathlib.Core.Path.{_≡_, sym}
+use Prim.Native.Nat.{_^_, _<_}
 use mathlib.Core.Logic.{⊎-elim}
 use native.Mathlib.Omega.{arith}
 use borrow.Author.Needs.{needs}
 use lib.ListN.{getD}
-use Rattle.classes.proofs.Faults.{level-power}
+use Rattle.numbers.proofs.Saturated.{level-power, saturated-power}
 use Rattle.classes.proofs.Sharing.{level-fault, residue-fault, above-fault, rising-to, shared-fault}
 use Rattle.classes.proofs.fault.fault.Statement.{statement}
 use Rattle.classes.proofs.fault.fault.Tie as tie
@@ -31,10 +32,18 @@ cast-power : tie.Need-cast-power
 cast-power c = search needs
 
 power-requires : tie.Need-power-requires
-power-requires c κs =
-    let b = c .before .before .before .before .before in
-    let a = b .args in
-    level-power (a .p) (a .n) (getD (a .levels .now) (a .i) 0) 4294967295 (b .pre .2) (c .if1 .left) (b .pre .3)
+power-requires c κs = search needs
+
+-- p^t, once the level is tested
+module _ (c : tie.After-power) where
+  abbrev call : tie.Start
+  call = c .before .before .before .before .before .before
+
+  positive : 0 < call .args .p
+  positive = omega (arith, call .pre .2)
+
+  power-is : c .power .result ≡ call .args .p ^ getD (call .args .levels .now) (call .args .i) 0
+  power-is = saturated-power positive (c .before .if1 .left) (call .pre .3) (c .power .ensures)
 
 cast-if2 : tie.Need-cast-if2
 cast-if2 c =
@@ -46,7 +55,7 @@ returns-2 c =
     let b = c .before .before .before .before .before .before .before in
     let a = b .args in
     sym (residue-fault (a .p) (a .n) (a .residues .now) (a .levels .now) (a .i) (b .pre .0) (b .pre .1)
-    (rw (c .before .power .ensures) at (c .if2 .taken)))
+    (rw (power-is (c .before)) at (c .if2 .taken)))
 
 sub-if4 : tie.Need-sub-if4
 sub-if4 c = search needs
@@ -75,7 +84,7 @@ contained-requires c κs =
       omega (arith, b .pre .1),
       rising-to (a .p) (a .n) (a .residues .now) (a .levels .now) (a .i) (b .pre .0) (b .pre .1) (b .pre .4),
       b .pre .2,
-      level-power (a .p) (a .n) (getD (a .levels .now) (a .i) 0) 4294967295 (b .pre .2) (c .before .before .before .if1 .left) (b .pre .3),
+      level-power (omega (arith, b .pre .2)) (c .before .before .before .if1 .left) (b .pre .3),
     )
 
 returns-4 : tie.Need-returns-4
@@ -85,7 +94,7 @@ returns-4 c =
     let k = c .before .before in
     rw (c .contained .ensures)
     (shared-fault (a .p) (a .n) (a .residues .now) (a .levels .now) (a .i) (b .pre .0) (b .pre .1) (b .pre .4)
-    (k .before .before .if1 .left) (rw (k .before .power .ensures) at (k .if2 .left))
+    (k .before .before .if1 .left) (rw (power-is (k .before)) at (k .if2 .left))
     (λ h. ⊎-elim (λ w. w .2 .left) (λ w. absurd (omega (arith, w .left))) (c .before .if3 .came)))
 
 pub fault-spec : {M : Type 1} → statement M

@@ -5,7 +5,7 @@ use native.Mathlib.Omega.{arith}
 use borrow.Author.Needs.{needs}
 use lib.ListN.{length}
 use Rattle.classes.specs.Rule7.{classesOf}
-use Rattle.classes.specs.Search.{FaultlessTo}
+use Rattle.classes.specs.inner.Search.{FaultlessTo}
 use Rattle.classes.proofs.Entries.{classes-same-length}
 use Rattle.classes.proofs.Faults.{faultless-next, first-fault-is}
 use Rattle.classes.proofs.fault.first_fault.Statement.{statement}

@@ -8,7 +8,7 @@ use borrow.Author.Needs.{needs}
 use borrow.Author.Tests.{lt-ltb, le-ltb}
 use lib.ListN.{length, getD}
 use Rattle.classes.specs.Rule7.{markAbove}
-use Rattle.classes.specs.Search.{firstHighMark}
+use Rattle.classes.specs.inner.Search.{firstHighMark}
 use Rattle.theory.proofs.Least.{least-is}
 use Rattle.classes.proofs.fault.first_high_mark.Statement.{statement}
 use Rattle.classes.proofs.fault.first_high_mark.Tie as tie

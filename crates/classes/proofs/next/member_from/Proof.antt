@@ -4,7 +4,7 @@ use native.Mathlib.Nat.{div-mul-le-self}
 use native.Mathlib.Omega.{arith}
 use borrow.Author.Needs.{needs}
 use borrow.Author.Tests.{le-leb, lt-leb}
-use Rattle.classes.specs.Next.{memberFrom}
+use Rattle.classes.specs.inner.Search.{memberFrom}
 use Rattle.classes.proofs.next.member_from.Statement.{statement}
 use Rattle.classes.proofs.next.member_from.Tie as tie
 

@@ -2,20 +2,15 @@
 use mathlib.Core.Path.{sym}
 use native.Mathlib.Omega.{arith}
 use borrow.Author.Needs.{needs}
-use Rattle.classes.proofs.Checks.{Checked, checked-accepted}
 use Rattle.classes.proofs.NextAnswers.{next-past, next-none, next-found}
 use Rattle.classes.proofs.next.next_member.Statement.{statement}
 use Rattle.classes.proofs.next.next_member.Tie as tie
-
--- what is known of the list
-checked : (c : tie.Start) → Checked (c .args .p) (c .args .n) (c .args .residues .now) (c .args .levels .now) (c .args .m)
-checked c = checked-accepted (c .args .p) (c .args .n) (c .args .residues .now) (c .args .levels .now) (c .args .m) (c .pre)
 
 returns : tie.Need-returns
 returns c =
     let b = c .before .before .before in
     let a = b .args in
-    sym (next-past (a .p) (a .n) (a .residues .now) (a .levels .now) (a .point) (a .m) (checked b) (c .if1 .taken))
+    sym (next-past (a .p) (a .n) (a .residues .now) (a .levels .now) (a .point) (a .m) (b .pre) (c .if1 .taken))
 
 least-member-requires : tie.Need-least-member-requires
 least-member-requires c κs = search needs
@@ -25,20 +20,20 @@ returns-2 c =
     let b = c .before .before .before .before .before in
     let a = b .args in
     let r = c .before .least-member in
-    sym (next-none (a .p) (a .n) (a .residues .now) (a .levels .now) (a .point) (a .m) (checked b) (c .before .before .if1 .left)
+    sym (next-none (a .p) (a .n) (a .residues .now) (a .levels .now) (a .point) (a .m) (b .pre) (c .before .before .if1 .left)
     (r .result) (r .ensures) (c .if2 .taken))
 
 cast-t11 : tie.Need-cast-t11
 cast-t11 c =
-    let C = checked (c .before .before .before .before .before) in
-    record { fits = omega (arith, c .if2 .left, C .usable .power, C .usable .within) }
+    let C = c .before .before .before .before .before .pre in
+    record { fits = omega (arith, c .if2 .left, C .modulus .power, C .modulus .within) }
 
 returns-3 : tie.Need-returns-3
 returns-3 c =
     let b = c .before .before .before .before .before in
     let a = b .args in
     let r = c .before .least-member in
-    sym (next-found (a .p) (a .n) (a .residues .now) (a .levels .now) (a .point) (a .m) (checked b) (c .before .before .if1 .left)
+    sym (next-found (a .p) (a .n) (a .residues .now) (a .levels .now) (a .point) (a .m) (b .pre) (c .before .before .if1 .left)
     (r .result) (r .ensures) (c .if2 .left))
 
 pub next-member-spec : {M : Type 1} → statement M

@@ -1,6 +1,7 @@
 -- `classes::next::next_root` meets its contract.
 use mathlib.Core.Path.{sym, _∙_}
 use borrow.Author.Needs.{needs}
+use Rattle.classes.proofs.Checks.{checked-accepted}
 use Rattle.classes.proofs.NextAnswers.{next-refused}
 use Rattle.classes.proofs.next.next_root.Statement.{statement}
 use Rattle.classes.proofs.next.next_root.Tie as tie
@@ -12,7 +13,11 @@ enum-known-m : tie.Need-enum-known-m
 enum-known-m c = search needs
 
 next-member-requires : tie.Need-next-member-requires
-next-member-requires c κs = sym (c .before .before .before .check-list .ensures) ∙ c .before .m .given .1
+next-member-requires c κs =
+    let a = c .before .before .before .before .before .before .args in
+    let m = c .before .m .given in
+    checked-accepted (a .p) (a .n) (a .residues .now) (a .levels .now) (m .0 .0)
+    (sym (c .before .before .before .check-list .ensures) ∙ m .1)
 
 enum-known-r : tie.Need-enum-known-r
 enum-known-r c = search needs

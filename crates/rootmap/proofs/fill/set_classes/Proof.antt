@@ -8,19 +8,22 @@ use lib.Dec.{ltb}
 use lib.ListN.{length, getD}
 use Rattle.theory.specs.Class.{class, isMember}
 use Rattle.theory.specs.ClassList.{members}
+use Rattle.theory.proofs.Numbers.Prime.{prime-pos}
+use Rattle.numbers.proofs.Saturated.{level-power}
 use Rattle.classes.specs.Rule7.{classesOf}
-use Rattle.rootmap.specs.Bits.{Added}
+use Rattle.classes.proofs.Faults.{faultless-entry}
+use Rattle.rootmap.specs.inner.Bits.{Added}
 use Rattle.rootmap.proofs.Adding.{added-none, added-same, added-both}
 use Rattle.rootmap.proofs.Listed.{listedBelow, listed-none, listed-next, listed-all}
 use Rattle.rootmap.proofs.fill.set_classes.Statement.{statement}
 use Rattle.rootmap.proofs.fill.set_classes.Tie as tie
 
 abbrev Inv-loop : tie.InvT-loop
-Inv-loop p residues levels m map₀ i₀ map i =
+Inv-loop p n residues levels m map₀ i₀ map i =
     (i ≤ length residues) × (length map ≡ length map₀) × Added (listedBelow p residues levels m i) map₀ map
 
 abbrev μ-loop : tie.MeasureT-loop
-μ-loop p residues levels m map₀ i₀ map i = length residues - i
+μ-loop p n residues levels m map₀ i₀ map i = length residues - i
 
 loop-holds : tie.Need-loop-holds Inv-loop μ-loop
 loop-holds c =
@@ -44,8 +47,15 @@ set-class-requires : tie.Need-set-class-requires Inv-loop μ-loop
 set-class-requires c κs =
     let b = c .before .before .before .before in
     let s = b .before .before .before .before in
-    let in-list : b .loop .i < length (s .args .residues .now) = omega arith in
-    (s .pre .0 .below (b .loop .i) in-list, s .pre .0 .within (b .loop .i) in-list, s .pre .1, omega (arith, b .loop .inv .1, s .pre .2))
+    let a = s .args in
+    let C = s .pre .0 in
+    let k = faultless-entry (a .p) (a .n) (a .residues .now) (a .levels .now) (C .same-length) (C .faultless) (b .loop .i)
+    (omega arith) in (
+      k .residue-fits,
+      level-power (prime-pos (C .modulus .prime)) (k .level-fits) (C .modulus .within),
+      s .pre .1,
+      omega (arith, b .loop .inv .1, s .pre .2),
+    )
 
 add-i : tie.Need-add-i Inv-loop μ-loop
 add-i c = search needs

@@ -6,7 +6,7 @@ use native.Mathlib.Omega.{arith}
 use borrow.Author.Needs.{needs}
 use lib.Dec.{eqb}
 use lib.ListN.{length}
-use Rattle.rootmap.specs.Bits.{Added}
+use Rattle.rootmap.specs.inner.Bits.{Added}
 use Rattle.rootmap.proofs.Adding.{added-none, added-same, added-both}
 use Rattle.rootmap.proofs.Steps.{memberBelow, members-first, members-next, members-last}
 use Rattle.rootmap.proofs.fill.set_members.Statement.{statement}

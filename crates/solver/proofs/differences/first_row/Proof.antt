@@ -1,81 +1,43 @@
--- `solver::differences::first_row` meets its contract. The invariant: k stages are done, of any polynomial with these values.
-use mathlib.Core.Path.{_≡_}
+-- `solver::differences::first_row` meets its contract. The invariant: k stages are done.
+use mathlib.Core.Path.{_≡_, refl, _∙_}
+use Prim.Native.Nat.{_-_, _≤_}
 use native.Mathlib.Omega.{arith}
 use borrow.Author.Needs.{needs}
-use Prim.Native.Nat.{ℕ, _-_, _%_, _≤_, _<_}
-use mathlib.Core.List.{List}
-use lib.ListN.{getD, take}
-use Rattle.theory.specs.Polynomial.{value}
-use Rattle.solver.proofs.Rows.{Stage, stage-start, stage-below, stage-next, stage-end}
+use lib.ListN.{length}
+use Rattle.solver.proofs.FiniteDifferences.{Stage, stage-start, stage-next, stage-end}
+use Rattle.solver.proofs.Tables.{remainders-below}
 use Rattle.solver.proofs.differences.first_row.Statement.{statement}
 use Rattle.solver.proofs.differences.first_row.Tie as tie
 
 abbrev Inv-loop : tie.InvT-loop
-Inv-loop len p v₀ k₀ v k =
-    (k ≤ len) × ((f : List ℕ) → ((i : ℕ) → i < len → getD v₀ i 0 ≡ value f i % p) → Stage p len f k v)
+Inv-loop g p row₀ k₀ row k = (k ≤ length row₀) × (length row ≡ length row₀) × Stage p g k row
 
 abbrev μ-loop : tie.MeasureT-loop
-μ-loop len p v₀ k₀ v k = len - k
-
-values-requires : tie.Need-values-requires Inv-loop μ-loop
-values-requires c κs = search needs
+μ-loop g p row₀ k₀ row k = length row₀ - k
 
 loop-holds : tie.Need-loop-holds Inv-loop μ-loop
-loop-holds c =
-    let a = c .before .args in
-    (omega arith, λ f h. stage-start (a .p) (a .len) f (c .before .pre .1) (c .values .result) h)
-
-cast-stage : tie.Need-cast-stage Inv-loop μ-loop
-cast-stage c = search needs
+loop-holds c = (omega arith, refl, stage-start _ _ (omega arith) _ _ (c .before .before .values .ensures))
 
 stage-requires : tie.Need-stage-requires Inv-loop μ-loop
 stage-requires c κs =
-    let b = c .before in
-    let a = b .before .before .args in
-    let pre = b .before .before .pre in
-    let f = take (a .len) (a .g) in (
-      c .loop-test .taken,
-      pre .0,
-      pre .2,
-      stage-below (a .p) (a .len) f (pre .1) (b .loop .k) (b .loop .v) (b .loop .inv .1 f (b .before .values .ensures)),
-    )
-
-add-k : tie.Need-add-k Inv-loop μ-loop
-add-k c = search needs
-
-loop-less : tie.Need-loop-less Inv-loop μ-loop
-loop-less c = search needs
+    let t = c .before .before in
+    let p = t .before .before .before .before .before .before .before .pre in
+    (omega arith, p .1, remainders-below _ _ _ (p .0) (t .loop .inv .2))
 
 loop-again : tie.Need-loop-again Inv-loop μ-loop
 loop-again c =
-    let b = c .before .before in
-    let a = b .before .before .args in
-    let k = b .loop .k in
-    let s = c .stage in (
-      omega arith,
-      λ f h. stage-next (a .p) (a .len) f (b .before .before .pre .1) k (b .loop .v) (s .result) (b .loop .inv .1 f h) (s .ensures .0)
-          (s .ensures .1),
-    )
+    let t = c .before .before .before .before .before in
+    let w = c .before .before .stage .ensures in
+    (omega arith, w .long ∙ t .loop .inv .1, stage-next _ _ (omega arith) (t .loop .k) _ _ (t .loop .inv .2) w)
 
 returns : tie.Need-returns Inv-loop μ-loop
 returns c =
-    let b = c .before in
-    let a = b .before .before .args in
-    let f = take (a .len) (a .g) in
-    let e : b .loop .k ≡ a .len = omega arith in
-    stage-end (a .p) (a .len) f (b .before .before .pre .1) (b .loop .v) (rw e at (b .loop .inv .1 f (b .before .values .ensures)))
+    let t = c .before in
+    let all : t .loop .k ≡ length (t .loop .row) = omega arith in
+    stage-end _ _ (omega arith) (t .loop .row) (rw all at (t .loop .inv .2))
 
 pub first-row-spec : {M : Type 1} → statement M
 first-row-spec =
     tie.close
-    (tie.spec
-    Inv-loop
-    μ-loop
-    values-requires
-    loop-holds
-    cast-stage
-    stage-requires
-    add-k
-    loop-less
-    loop-again
-    returns)
+    (tie.spec Inv-loop μ-loop (λ c κs. search needs) loop-holds (λ c. search needs) stage-requires (λ c. search needs)
+    (λ c. search needs) loop-again (λ c. search needs) returns)

@@ -1,68 +1,49 @@
 -- `solver::digits::linear` meets its contract.
-use mathlib.Core.Path.{sym}
+use mathlib.Core.Path.{sym, _∙_}
+use Prim.Native.Nat.{ℕ, _-_, _*_, _%_, _<_}
+use native.Mathlib.Nat.{mod-lt}
 use native.Mathlib.Omega.{arith}
-use native.Mathlib.Nat.{mul-le-mul, mod-lt}
 use borrow.Author.Needs.{needs}
-use Prim.Native.Nat.{_-_, _*_, _%_, _≤_, _<_}
-use lib.ListN.{getD, take}
+use lib.ListN.{getD}
+use lib.Seq.{take-suc-set}
 use Rattle.theory.proofs.Numbers.Prime.{prime-pos}
-use Rattle.solver.proofs.Tables.{below-at}
-use Rattle.solver.proofs.Linear.{lead-pos, zero-at, zero-alone}
+use Rattle.solver.proofs.Linear.{lead-pos, linear-zeros}
+use Rattle.solver.proofs.Tables.{product-fits}
 use Rattle.solver.proofs.digits.linear.Statement.{statement}
 use Rattle.solver.proofs.digits.linear.Tie as tie
 
-constant-small : (c : tie.Start) → getD (c .args .t1) 0 0 < c .args .p
-constant-small c = below-at (c .args .p) 2 0 (c .args .t1) (c .pre .2) (omega arith)
-
-array-read-digits : tie.Need-array-read-digits
-array-read-digits c = search needs
-
-sub-digits : tie.Need-sub-digits
-sub-digits c = omega (arith, constant-small c)
-
-array-read-inverse : tie.Need-array-read-inverse
-array-read-inverse c = search needs
-
 inverse-requires : tie.Need-inverse-requires
 inverse-requires c κs =
-    let a = c .args in
-    let pre = c .pre in
-    (lead-pos (a .p) (a .t1) (pre .3), below-at (a .p) 2 1 (a .t1) (pre .2) (omega arith), pre .0, pre .1)
+    let pre = c .before .before .before .before .pre in
+    (lead-pos (pre .4), pre .3 .at 1, pre .1, pre .2)
 
-mul-digits : tie.Need-mul-digits
-mul-digits c =
-    let a = c .before .args in
-    let pre = c .before .pre in
-    let m : a .p - getD (a .t1) 0 0 ≤ 65535 = omega (arith, pre .1) in
-    let x : c .inverse .result ≤ 65535 = omega (arith, c .inverse .ensures .0, pre .1) in
-    record { fits = omega (arith, mul-le-mul m x) }
+module _ (c : tie.After-inverse) where
+  abbrev start : tie.Start
+  start = c .before .before .before .before .before
 
-rem-digits : tie.Need-rem-digits
-rem-digits c = prime-pos (c .before .pre .0)
+  abbrev p : ℕ
+  p = start .args .p
 
-array-write-digits : tie.Need-array-write-digits
-array-write-digits c = search needs
+  abbrev x : ℕ
+  x = (p - getD (start .args .g .now) 0 0) * c .inverse .result
+
+  low : x % p < p
+  low = mod-lt x (prime-pos (start .pre .1))
 
 returns : tie.Need-returns
 returns c =
-    let a = c .before .args in
-    let pre = c .before .pre in
-    let x = c .inverse .result in
-    let d = (a .p - getD (a .t1) 0 0) * x % a .p in (
+    let a = start c .args in
+    let pre = start c .pre in
+    let i = c .inverse in (
       omega arith,
-      sym (zero-alone (a .p) (take 2 (a .t1)) d (pre .0) (pre .3) (mod-lt ((a .p - getD (a .t1) 0 0) * x) (prime-pos (pre .0)))
-          (zero-at (a .p) (a .t1) x (pre .0 .two) (constant-small (c .before)) (c .inverse .ensures .1))),
+      take-suc-set (a .zeros .now) 0 (x c % p c) (omega arith)
+          ∙ sym (linear-zeros (p c) (a .g .now) (i .result) (pre .0) (pre .1) (pre .4) (pre .3 .at 0) (i .ensures .1) (low c)),
     )
 
 pub linear-spec : {M : Type 1} → statement M
 linear-spec =
     tie.close
-    (tie.spec
-    array-read-digits
-    sub-digits
-    array-read-inverse
-    inverse-requires
-    mul-digits
-    rem-digits
-    array-write-digits
-    returns)
+    (tie.spec (λ c. search needs) (λ c. omega (arith, c .shared-slice-known2 .given 0))
+    (λ c. omega (arith, c .before .before .before .pre .3 .at 0)) (λ c. search needs) (λ c. omega (arith, c .shared-slice-known3 .given 1))
+    inverse-requires (λ c. product-fits _ _ (omega arith) (omega arith))
+    (λ c. search needs) (λ c. omega (arith, low c)) (λ c. search needs) (λ c. search needs) returns)

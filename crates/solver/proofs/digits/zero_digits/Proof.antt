@@ -1,84 +1,83 @@
 -- `solver::digits::zero_digits` meets its contract.
 use mathlib.Core.Path.{_≡_, sym, ap, _∙_}
+use mathlib.Core.List.{List, _++_}
+use Prim.Native.Nat.{ℕ, _+_, _-_, _≤_}
 use native.Mathlib.Omega.{arith}
 use borrow.Author.Needs.{needs}
-use Prim.Native.Nat.{_%_, _≤_, _-_, ℕ, _<_, _+_}
-use lib.ListN.{length, getD, take}
-use mathlib.Core.Bool.{Bool}
-use lib.Seq.{length-take-le, getD-take}
-use Rattle.solver.proofs.Zeros.{degree-modulo, low-vanishes, low-degree, degree-modulo-lt}
-use Rattle.solver.proofs.Tables.{residues-below}
-use Rattle.theory.specs.Range.{passing}
-use Rattle.theory.proofs.Polynomials.Quotient.{Degree}
+use lib.ListN.{length, take, drop, replicate, length-take}
+use lib.Seq.{length-front, length-take-le}
+use Rattle.theory.specs.inner.Polynomial.{Degree}
+use Rattle.theory.proofs.Lists.Fill.{part-back}
 use Rattle.theory.proofs.Numbers.Prime.{prime-pos}
+use Rattle.theory.proofs.Polynomials.Congruence.{SameModulo}
+use Rattle.solver.specs.inner.Table.{degreeModulo, zeroDigits}
+use Rattle.solver.proofs.Tables.{residues-below, residues-same}
+use Rattle.solver.proofs.Zeros.{degree-modulo, degree-modulo-lt, degree-same, vanishes-same}
 use Rattle.solver.proofs.digits.zero_digits.Statement.{statement}
 use Rattle.solver.proofs.digits.zero_digits.Tie as tie
 
--- what is known once the degree is computed
-record Known (c : tie.After-degree) : Type 0 where
-  small : c .degree .result < c .before .args .len
-  degree : Degree (c .before .args .p) (take (c .before .args .len) (c .before .args .h)) (c .degree .result)
+module _ (c : tie.After-degree) where
+  abbrev start : tie.Start
+  start = c .before .before .before
 
-known : (c : tie.After-degree) → Known c
-known c =
-    let a = c .before .args in
-    let f = take (a .len) (a .h) in
-    let e = c .degree .ensures in
-    let n = c .before .pre .3 in
-    let long : a .len ≤ length (a .h) = search needs in
-    record {
-      small = omega (arith, e, degree-modulo-lt (a .p) f n, length-take-le (a .len) (a .h) long);
-      degree = rw e (degree-modulo (a .p) f n);
-    }
+  abbrev p : ℕ
+  p = start .args .p
 
-reduced : (c : tie.After-modulo) → (i : ℕ) → i < c .before .degree .result + 1
-    → getD (c .modulo .result) i 0 ≡ getD (take (c .before .before .args .len) (c .before .before .args .h)) i 0 % c .before .before .args
-    .p
-reduced c i l =
-    let a = c .before .before .args in
-    let k = known (c .before) in
-    c .modulo .ensures .at i l ∙ ap (λ (x : ℕ). x % a .p) (sym (getD-take (a .len) (a .h) i 0 (omega (arith, k .small))))
+  abbrev h : List ℕ
+  h = start .args .h .now
 
-degree-requires : tie.Need-degree-requires
-degree-requires c κs = search needs
+  abbrev len : ℕ
+  len = c .degree .result + 1
 
-add-modulo : tie.Need-add-modulo
-add-modulo c = record { fits = omega (arith, known c .small) }
+  known : Degree p h (degreeModulo p h)
+  known = degree-modulo p h (start .pre .3)
 
-modulo-requires : tie.Need-modulo-requires
-modulo-requires c κs = (omega (arith, known c .small, c .before .pre .0), prime-pos (c .before .pre .1))
+  fits : len ≤ length h
+  fits = omega (arith, c .degree .ensures, degree-modulo-lt p h (start .pre .3))
 
-add-by-degree : tie.Need-add-by-degree
-add-by-degree c = record { fits = omega (arith, known (c .before) .small) }
+-- the residues r stand in the table
+module _ (c : tie.After-g2) where
+  abbrev s : tie.After-degree
+  s = c .before .before .before
+
+  abbrev r : List ℕ
+  r = c .before .reduce .last .1 .1 .0
+
+  long : length r ≡ len s
+  long = c .before .reduce .kept .1 .1 .0 ∙ length-take-le (len s) (replicate 65 0) (omega (arith, fits s))
+
+  back : take (len s) (r ++ drop (len s) (replicate 65 0)) ≡ r
+  back = part-back (len s) (replicate 65 0) r (omega (arith, fits s)) (c .before .reduce .kept .1 .1 .0)
+
+  same : SameModulo (p s) r (h s)
+  same = residues-same (c .before .reduce .ensures) (λ i l. known s .above i (omega (arith, long, s .degree .ensures)))
 
 by-degree-requires : tie.Need-by-degree-requires
 by-degree-requires c κs =
-    let a = c .before .before .args in
-    let pre = c .before .before .pre in
-    let d = c .before .degree .result in
-    let k = known (c .before) in
-    let one : d + 1 - 1 ≡ d = omega arith in (
-      omega arith,
-      omega (arith, k .small, pre .0),
+    let g = c .before .before in
+    let pre = start (s g) .pre in
+    let d : length (r g) - 1 ≡ degreeModulo (p (s g)) (h (s g)) = omega (arith, long g, s g .degree .ensures) in
+    rw (back g) (
+      omega (arith, long g),
+      omega (arith, long g, fits (s g), pre .0),
       pre .1,
       pre .2,
-      residues-below (a .p) (d + 1) (c .modulo .result) (a .h) (prime-pos (pre .1))
-          (c .modulo .ensures),
-      rw one (low-degree (a .p) d (c .modulo .result) (take (a .len) (a .h)) (k .degree) (reduced c)),
+      residues-below (prime-pos (pre .1)) (g .before .reduce .ensures),
+      rw d (degree-same (same g) (known (s g))),
+      pre .4,
     )
 
 returns : tie.Need-returns
 returns c =
-    let a = c .before .before .before .args in
-    let d = c .before .before .degree .result in
-    let k = known (c .before .before) in
-    let s = c .by-degree .ensures in (
-      s .0,
-      s .1 ∙ ap (λ (test : ℕ → Bool). passing test (a .p) 0)
-          (low-vanishes (a .p) d (c .before .modulo .result) (take (a .len) (a .h)) (k .degree) (reduced (c .before))),
-    )
+    let done = c .before .before .by-degree .ensures in
+    let g = c .before .before .before .before .before in
+    (done .0, done .1 ∙ ap (zeroDigits (p (s g))) (back g) ∙ rw (vanishes-same (r g) (h (s g)) (same g)))
 
 pub zero-digits-spec : {M : Type 1} → statement M
 zero-digits-spec =
     tie.close
-    (tie.spec degree-requires add-modulo modulo-requires add-by-degree by-degree-requires returns)
+    (tie.spec (λ c κs. search needs) (λ c. omega (arith, fits c)) (λ c. omega (arith, fits c))
+    (λ c. sym (length-take-le _ _ (omega (arith, fits (c .before)))))
+    (λ c κs. (prime-pos (start (c .before) .pre .1), simp length-take (omega (arith, fits (c .before)))))
+    (λ c. omega (arith, fits (s c), length-front (replicate 65 0) (r c) (len (s c)) (c .before .reduce .kept .1 .1 .0)))
+    (λ c. sym (ap length (back (c .before)) ∙ long (c .before))) by-degree-requires (λ c. search needs) returns)

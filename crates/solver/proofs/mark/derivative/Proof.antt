@@ -1,92 +1,45 @@
--- `solver::mark::derivative` meets its contract. The invariant: the coefficients of index below i − 1 are the derivative's.
-use mathlib.Core.Path.{_≡_}
+-- `solver::mark::derivative` meets its contract. The invariant: the first i coefficients are the derivative's.
+use mathlib.Core.Path.{_≡_, refl}
+use mathlib.Core.List.{List}
+use Prim.Native.Nat.{ℕ, suc, _+_, _-_, _*_, _%_, _≤_}
+use native.Mathlib.Numerals.{add-one}
 use native.Mathlib.Omega.{arith}
 use borrow.Author.Needs.{needs}
-use Prim.Native.Nat.{_<_, ℕ, max, _*_, _%_, _≤_, _-_}
-use lib.ListN.{length-set, take, length, getD}
-use native.Mathlib.Nat.{mul-le-mul, mod-lt}
-use Rattle.solver.proofs.Marks.{derivative-at}
+use lib.ListN.{length}
 use Rattle.theory.specs.Polynomial.{derivative}
-use Rattle.theory.proofs.Lists.Fill.{entry-next}
+use Rattle.theory.specs.inner.Polynomial.{coef}
+use Rattle.theory.specs.inner.Written.{Written}
+use Rattle.theory.proofs.Lists.Written.{written-none, written-up}
+use Rattle.theory.proofs.Numbers.Congruence.{cong-refl, cong-mul, cong-mod}
+use Rattle.theory.proofs.Polynomials.Derivative.{coef-derivative}
+use Rattle.solver.proofs.Tables.{product-fits, remainder-le, remainder-fits}
 use Rattle.solver.proofs.mark.derivative.Statement.{statement}
 use Rattle.solver.proofs.mark.derivative.Tie as tie
 
 abbrev Inv-loop : tie.InvT-loop
-Inv-loop len p g d₀ i₀ d i =
-    (1 ≤ i) × (i ≤ max 1 len) × (length d ≡ 65) × ((k : ℕ) → k < i - 1 → getD d k 0 ≡ getD (derivative (take len g)) k 0 % p)
+Inv-loop g p d₀ i₀ d i = (i ≤ length d₀) × Written (λ k. coef (derivative g) k % p) 0 i d₀ d
 
 abbrev μ-loop : tie.MeasureT-loop
-μ-loop len p g d₀ i₀ d i = len - i
+μ-loop g p d₀ i₀ d i = length d₀ - i
 
-loop-holds : tie.Need-loop-holds Inv-loop μ-loop
-loop-holds c = search needs
-
-mul-d : tie.Need-mul-d Inv-loop μ-loop
-mul-d c = search needs
-
-array-read-d : tie.Need-array-read-d Inv-loop μ-loop
-array-read-d c = search needs
-
-rem-d : tie.Need-rem-d Inv-loop μ-loop
-rem-d c = search needs
-
-mul-d-2 : tie.Need-mul-d-2 Inv-loop μ-loop
-mul-d-2 c =
-    let b = c .before in
-    let a = b .before .args in
-    let small : getD (a .t1) (b .loop .i) 0 % a .p ≤ 65535 = omega (arith, mod-lt (getD (a .t1) (b .loop .i) 0) (b .before .pre .1)) in
-    let i-small : b .loop .i ≤ 65 = omega arith in
-    record { fits = omega (arith, mul-le-mul i-small small) }
-
-rem-d-2 : tie.Need-rem-d-2 Inv-loop μ-loop
-rem-d-2 c = search needs
-
-sub-d : tie.Need-sub-d Inv-loop μ-loop
-sub-d c = search needs
-
-mul-d-3 : tie.Need-mul-d-3 Inv-loop μ-loop
-mul-d-3 c = search needs
-
-array-write-d : tie.Need-array-write-d Inv-loop μ-loop
-array-write-d c = search needs
-
-add-i : tie.Need-add-i Inv-loop μ-loop
-add-i c = search needs
-
-loop-less : tie.Need-loop-less Inv-loop μ-loop
-loop-less c = search needs
+-- one coefficient of the derivative
+term : (p i : ℕ) (g : List ℕ) → (i + 1) * (coef g (i + 1) % p) % p ≡ coef (derivative g) i % p
+term p i g = rw (coef-derivative g i, add-one i) (cong-mul (cong-refl {x = suc i}) (cong-mod p (coef g (suc i))) .same)
 
 loop-again : tie.Need-loop-again Inv-loop μ-loop
 loop-again c =
-    let b = c .before in
-    let a = b .before .args in
-    let i = b .loop .i in
-    let next = entry-next (b .loop .d) (i - 1) (i * (getD (a .t1) i 0 % a .p) % a .p) 0
-    (λ k. getD (derivative (take (a .len) (a .t1))) k 0 % a .p)
-    (omega (arith, b .loop .inv .2)) (derivative-at (a .p) (a .len) i (a .t1) (b .loop .inv .0) (c .loop-test .taken)) (b .loop .inv .3) in
-    (omega arith, omega arith, simp length-set (b .loop .inv .2), λ k l. next k (omega arith))
+    let t = c .before .before in
+    let a = t .before .args in
+    (omega arith, written-up (t .loop .inv .1) (t .loop .i) _ (omega arith) (term (a .p) (t .loop .i) (a .g .now)) (omega arith) refl)
 
 returns : tie.Need-returns Inv-loop μ-loop
-returns c =
-    let b = c .before in
-    record { at = λ k l. b .loop .inv .3 k (omega arith) }
+returns c = let w = c .before .loop .inv .1 in record { at = λ i h. w .inside i (omega arith) (omega (arith, w .long)) }
 
 pub derivative-spec : {M : Type 1} → statement M
 derivative-spec =
     tie.close
-    (tie.spec
-    Inv-loop
-    μ-loop
-    loop-holds
-    mul-d
-    array-read-d
-    rem-d
-    mul-d-2
-    rem-d-2
-    sub-d
-    mul-d-3
-    array-write-d
-    add-i
-    loop-less
-    loop-again
-    returns)
+    (tie.spec Inv-loop μ-loop (λ c. (omega arith, written-none _ _ _)) (λ c. search needs) (λ c. search needs) (λ c. search needs)
+    (λ c. search needs) (λ c. omega (arith, c .shared-slice-known .given (c .before .before .loop .i + 1))) (λ c. search needs)
+    (λ c. product-fits _ _ (omega arith) (remainder-le _ _ (omega arith) (omega arith)))
+    (λ c. search needs) (λ c. remainder-fits _ _ (omega arith) (omega arith)) (λ c. search needs) (λ c. search needs) (λ c. search needs)
+    (λ c. search needs) loop-again (λ c. search needs) returns)

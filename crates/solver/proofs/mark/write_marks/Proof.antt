@@ -1,87 +1,67 @@
--- `solver::mark::write_marks` meets its contract. The invariant: the first i marks are written, and the others are as they were.
-use mathlib.Core.Path.{_≡_, ap, _∙_}
+-- `solver::mark::write_marks` meets its contract. The invariant: the first i marks are written.
+use mathlib.Core.Path.{_≡_, refl, sym, ap, _∙_}
+use mathlib.Core.List.{List, _++_}
+use Prim.Native.Nat.{ℕ, _-_, _/_, _≤_}
 use native.Mathlib.Omega.{arith}
 use borrow.Author.Needs.{needs}
-use Prim.Native.Nat.{ℕ, _≤_, _-_}
-use lib.ListN.{set, drop, take, length}
-use mathlib.Core.List.{_++_, List, map}
-use Rattle.theory.proofs.Lists.Fill.{written-next, written-length}
-use Rattle.solver.specs.Code.{markAt}
+use lib.ListN.{length, getD, take, drop, replicate}
+use lib.Seq.{length-front, length-take-le}
+use Rattle.theory.specs.Mark.{markOf}
+use Rattle.theory.specs.inner.Written.{Written}
+use Rattle.theory.proofs.Lists.Fill.{part-back}
+use Rattle.theory.proofs.Lists.Written.{written-none, written-up, written-map}
+use Rattle.solver.specs.inner.Code.{classOf}
+use Rattle.solver.specs.inner.Table.{markFrom}
+use Rattle.solver.proofs.Marks.{mark-is}
 use Rattle.solver.proofs.mark.write_marks.Statement.{statement}
 use Rattle.solver.proofs.mark.write_marks.Tie as tie
 
 abbrev Inv-loop : tie.InvT-loop
-Inv-loop codes k d len p marks₀ i₀ marks i = (i ≤ k) × (marks ≡ map (markAt p (take len d)) (take i codes) ++ drop i marks₀)
+Inv-loop g p codes marks₀ d len i₀ marks i =
+    (i ≤ length codes) × Written (λ k. markOf g p (classOf (getD codes k 0))) 0 i marks₀ marks
 
 abbrev μ-loop : tie.MeasureT-loop
-μ-loop codes k d len p marks₀ i₀ marks i = k - i
+μ-loop g p codes marks₀ d len i₀ marks i = length codes - i
 
-loop-holds : tie.Need-loop-holds Inv-loop μ-loop
-loop-holds c = search needs
+-- the residues r of the derivative stand in the table
+module _ (c : tie.After-derivative Inv-loop μ-loop) where
+  abbrev start : tie.Start Inv-loop μ-loop
+  start = c .before .before .before .before .before
 
-mul-mark : tie.Need-mul-mark Inv-loop μ-loop
-mul-mark c = search needs
+  abbrev len : ℕ
+  len = length (start .args .g .now) - 1
 
-shared-slice-read-mark : tie.Need-shared-slice-read-mark Inv-loop μ-loop
-shared-slice-read-mark c = search needs
+  abbrev r : List ℕ
+  r = c .derivative .last .1 .1 .0
 
-mark-requires : tie.Need-mark-requires Inv-loop μ-loop
-mark-requires c κs = search needs
+  long : length r ≡ len
+  long = c .derivative .kept .1 .1 .0 ∙ length-take-le len (replicate 65 0) (omega arith)
 
-slice-write-marks : tie.Need-slice-write-marks Inv-loop μ-loop
-slice-write-marks c =
-    let b = c .before .before .before in
-    let a = b .before .before .before .args in
-    omega (
-      arith,
-      ap length (b .loop .inv .1),
-      written-length (markAt (a .p) (take (a .len) (a .d))) (a .codes .now) (a .marks .now) (b .loop .i) (omega arith) (omega arith),
-    )
+  back : take len (r ++ drop len (replicate 65 0)) ≡ r
+  back = part-back len (replicate 65 0) r (omega arith) (c .derivative .kept .1 .1 .0)
 
-add-i : tie.Need-add-i Inv-loop μ-loop
-add-i c = search needs
-
-loop-less : tie.Need-loop-less Inv-loop μ-loop
-loop-less c = search needs
+  mark-at : (x : ℕ) → markFrom (start .args .p) (take len (r ++ drop len (replicate 65 0))) (x / 256)
+      ≡ markOf (start .args .g .now) (start .args .p) (classOf x)
+  mark-at x = rw back (mark-is (start .args .p) (start .args .g .now) r long (c .derivative .ensures) (classOf x))
 
 loop-again : tie.Need-loop-again Inv-loop μ-loop
 loop-again c =
-    let b = c .before .before .before in
-    let a = b .before .before .before .args in
-    let i = b .loop .i in
-    let f = markAt (a .p) (take (a .len) (a .d)) in (
+    let t = c .before .before .before .before in (
       omega arith,
-      ap (λ (l : List ℕ). set l i (c .mark .result)) (b .loop .inv .1)
-          ∙ written-next f (a .codes .now) i 0 (omega arith) (a .marks .now) 0 (c .mark .result) (omega arith) (c .mark .ensures),
+      written-up (t .loop .inv .1) (t .loop .i) _ (omega arith) (c .mark .ensures ∙ mark-at (t .before .before) _) (omega arith) refl,
     )
-
-same-length : tie.Need-same-length Inv-loop μ-loop
-same-length c =
-    let b = c .before in
-    let a = b .before .before .before .args in
-    ap length (b .loop .inv .1)
-    ∙ written-length (markAt (a .p) (take (a .len) (a .d))) (a .codes .now) (a .marks .now) (b .loop .i) (omega arith) (omega arith)
 
 returns : tie.Need-returns Inv-loop μ-loop
 returns c =
-    let b = c .before in
-    let a = b .before .before .before .args in
-    let e : b .loop .i ≡ a .k = omega arith in
-    b .loop .inv .1 ∙ ap (λ (k : ℕ). map (markAt (a .p) (take (a .len) (a .d))) (take k (a .codes .now)) ++ drop k (a .marks .now)) e
+    let s = start (c .before .before .before) in
+    let all : c .before .loop .i ≡ length (s .args .codes .now) = omega arith in
+    written-map _ classOf (s .args .codes .now) _ _ (s .pre .4) (rw all at (c .before .loop .inv .1))
 
 pub write-marks-spec : {M : Type 1} → statement M
 write-marks-spec =
     tie.close
-    (tie.spec
-    Inv-loop
-    μ-loop
-    loop-holds
-    mul-mark
-    shared-slice-read-mark
-    mark-requires
-    slice-write-marks
-    add-i
-    loop-less
-    loop-again
-    same-length
-    returns)
+    (tie.spec Inv-loop μ-loop (λ c. search needs) (λ c. search needs) (λ c. sym (length-take-le _ _ (omega arith)))
+    (λ c κs. (omega arith, length-take-le _ _ (omega arith), omega arith, omega arith)) (λ c. (omega arith, written-none _ _ _))
+    (λ c. let s = c .before .before .before in omega (arith, length-front (replicate 65 0) (r s) (len s) (s .derivative .kept .1 .1 .0)))
+    (λ c. let s = c .before .before .before .before in sym (ap length (back s) ∙ long s)) (λ c. search needs) (λ c. search needs)
+    (λ c κs. search needs) (λ c. search needs) (λ c. search needs) (λ c. search needs) loop-again (λ c. search needs) returns)

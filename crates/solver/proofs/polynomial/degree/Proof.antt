@@ -1,79 +1,61 @@
 -- `solver::polynomial::degree` meets its contract. The invariant: p divides the coefficients from i on.
-use mathlib.Core.Path.{_≡_, sym}
+use mathlib.Core.Path.{_≡_, sym, ap}
+use mathlib.Core.Bool.{false, not}
+use Prim.Native.Nat.{ℕ, _-_, _%_, _≤_}
+use native.Mathlib.Decide.{decLe}
+use native.Mathlib.Nat.{zero-mod}
 use native.Mathlib.Omega.{arith}
 use borrow.Author.Needs.{needs}
-use Prim.Native.Nat.{_%_, _<_, _-_, ℕ, _≤_}
-use lib.ListN.{getD}
-use native.Mathlib.Decide.{decLe}
-use Rattle.solver.proofs.Tables.{degree-none, degree-at}
+use lib.ListN.{length, getD, List·getD-eq-default}
+use Rattle.theory.proofs.Numbers.Prime.{divides-on, divides-off}
+use Rattle.theory.proofs.Polynomials.Highest.{highest-is, highest-none}
+use Rattle.solver.specs.inner.Table.{prime-to, degreeModulo}
 use Rattle.solver.proofs.polynomial.degree.Statement.{statement}
 use Rattle.solver.proofs.polynomial.degree.Tie as tie
 
 abbrev Inv-loop : tie.InvT-loop
-Inv-loop len p h i₀ i = (i ≤ len) × ((k : ℕ) → i ≤ k → k < len → getD h k 0 % p ≡ 0)
+Inv-loop h p i₀ i = (i ≤ length h) × ((k : ℕ) → i ≤ k → getD h k 0 % p ≡ 0)
 
 abbrev μ-loop : tie.MeasureT-loop
-μ-loop len p h i₀ i = i
+μ-loop h p i₀ i = i
+
+multiple : (p a : ℕ) → a % p ≡ 0 → prime-to p a ≡ false
+multiple p a e = ap not (divides-on p a e)
 
 -- one coefficient more
-from-next : (P : ℕ → Type 0) (i len : ℕ) → 0 < i → P (i - 1) → ((k : ℕ) → i ≤ k → k < len → P k) → (k : ℕ) → i - 1 ≤ k → k < len → P k
-from-next P i len h at above k l u = go (decLe i k)
+from-next : (P : ℕ → Type 0) (i : ℕ) → P (i - 1) → ((k : ℕ) → i ≤ k → P k) → (k : ℕ) → i - 1 ≤ k → P k
+from-next P i at above k l = go (decLe i k)
   where
     go : Dec (i ≤ k) → P k
-    go (yes w) = above k w u
+    go (yes w) = above k w
     go (no w) = let e : k ≡ i - 1 = omega arith in rw e at
 
 loop-holds : tie.Need-loop-holds Inv-loop μ-loop
-loop-holds c = search needs
-
-sub-i : tie.Need-sub-i Inv-loop μ-loop
-sub-i c = search needs
-
-mul-if1 : tie.Need-mul-if1 Inv-loop μ-loop
-mul-if1 c = search needs
-
-array-read-if1 : tie.Need-array-read-if1 Inv-loop μ-loop
-array-read-if1 c = search needs
-
-rem-if1 : tie.Need-rem-if1 Inv-loop μ-loop
-rem-if1 c = search needs
+loop-holds c = (omega arith, λ k l. rw (List·getD-eq-default (c .args .h .now) 0 {n = k} l) (zero-mod (c .args .p)))
 
 returns : tie.Need-returns Inv-loop μ-loop
+unfolding degreeModulo
 returns c =
-    let b = c .before .before in
-    let a = b .before .args in
-    sym (degree-at (a .p) (a .len) (b .loop .i - 1) (a .t1) (omega arith) (c .if1 .taken) (λ k l u. b .loop .inv .1 k (omega arith) u))
-
-loop-less : tie.Need-loop-less Inv-loop μ-loop
-loop-less c = search needs
+    let t = c .before .before .before in
+    let p = t .before .args .p in
+    sym (highest-is (prime-to p) (t .before .args .h .now) (multiple p 0 (zero-mod p)) (t .loop .i - 1)
+    (ap not (divides-off p _ (c .if1 .taken))) (λ k l. multiple p _ (t .loop .inv .1 k (omega arith))))
 
 loop-again : tie.Need-loop-again Inv-loop μ-loop
 loop-again c =
-    let b = c .before .before in
-    let a = b .before .args in (
-      omega arith,
-      from-next (λ (k : ℕ). getD (a .t1) k 0 % a .p ≡ 0) (b .loop .i) (a .len) (c .before .loop-test .taken) (c .if1 .left)
-          (b .loop .inv .1),
-    )
+    let t = c .before .before .before in
+    let a = t .before .args in
+    (omega arith, from-next (λ k. getD (a .h .now) k 0 % a .p ≡ 0) (t .loop .i) (c .if1 .left) (t .loop .inv .1))
 
 returns-2 : tie.Need-returns-2 Inv-loop μ-loop
+unfolding degreeModulo
 returns-2 c =
-    let b = c .before in
-    let a = b .before .args in
-    sym (degree-none (a .p) (a .len) (a .t1) (λ k l. b .loop .inv .1 k (omega arith) l))
+    let p = c .before .before .args .p in
+    sym (highest-none (prime-to p) (c .before .before .args .h .now) (λ k. multiple p _ (c .before .loop .inv .1 k (omega arith))))
 
 pub degree-spec : {M : Type 1} → statement M
 degree-spec =
     tie.close
-    (tie.spec
-    Inv-loop
-    μ-loop
-    loop-holds
-    sub-i
-    mul-if1
-    array-read-if1
-    rem-if1
-    returns
-    loop-less
-    loop-again
-    returns-2)
+    (tie.spec Inv-loop μ-loop loop-holds (λ c. search needs) (λ c. search needs) (λ c. search needs)
+    (λ c. omega (arith, c .shared-slice-known .given (c .before .before .loop .i - 1))) (λ c. search needs) returns
+    (λ c. search needs) loop-again returns-2)

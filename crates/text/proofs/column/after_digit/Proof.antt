@@ -7,7 +7,8 @@ use borrow.Author.Needs.{needs}
 use borrow.Author.Tests.{eq-eqb, ne-eqb}
 use Rattle.text.specs.declared.column.Part.{Part}
 use Rattle.text.specs.declared.column.Part.the-variants.{Blanks, Minus, Number, Fault}
-use Rattle.text.specs.Reading.{afterDigit, capped}
+use Rattle.text.specs.Reading.{afterDigit}
+use Rattle.text.specs.inner.Capped.{capped}
 use Rattle.text.proofs.Capped.{capped-small}
 use Rattle.text.proofs.column.after_digit.Statement.{statement}
 use Rattle.text.proofs.column.after_digit.Tie as tie

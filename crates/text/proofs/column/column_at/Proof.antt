@@ -8,7 +8,8 @@ use borrow.Author.Needs.{needs}
 use lib.ListN.{length, take, drop}
 use Rattle.text.specs.declared.column.Part.{Part}
 use Rattle.text.specs.declared.column.Part.the-variants.{Fault}
-use Rattle.text.specs.Reading.{scan, capped}
+use Rattle.text.specs.Reading.{scan}
+use Rattle.text.specs.inner.Capped.{capped}
 use Rattle.text.specs.Text.{columnAt}
 use Rattle.text.proofs.Values.{column-whole, column-incomplete}
 use Rattle.text.proofs.column.column_at.Statement.{statement}

@@ -6,7 +6,8 @@ use native.Mathlib.Numerals.{add-one}
 use borrow.Author.Needs.{needs}
 use lib.ListN.{length, getD, take}
 use lib.Seq.{take-length, take-suc}
-use Rattle.text.specs.Reading.{scan, capped}
+use Rattle.text.specs.Reading.{scan}
+use Rattle.text.specs.inner.Capped.{capped}
 use Rattle.text.proofs.Capped.{capped-next}
 use Rattle.text.proofs.column.scan.Statement.{statement}
 use Rattle.text.proofs.column.scan.Tie as tie

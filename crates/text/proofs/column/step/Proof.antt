@@ -4,7 +4,8 @@ use native.Mathlib.Omega.{arith}
 use borrow.Author.Needs.{needs}
 use Rattle.text.specs.declared.column.Part.{Part}
 use Rattle.text.specs.declared.column.Part.the-variants.{Blanks, Minus, Number, Fault}
-use Rattle.text.specs.Reading.{afterBlank, afterMinus, capped}
+use Rattle.text.specs.Reading.{afterBlank, afterMinus}
+use Rattle.text.specs.inner.Capped.{capped}
 use Rattle.text.proofs.Steps.{step-blank, step-minus, step-digit, step-low, step-high}
 use Rattle.text.proofs.column.step.Statement.{statement}
 use Rattle.text.proofs.column.step.Tie as tie

@@ -5,7 +5,7 @@ use Prim.Native.Nat.{ℕ, _-_, _/_, _≤_}
 use native.Mathlib.Omega.{arith}
 use borrow.Author.Needs.{needs}
 use lib.ListN.{length, drop, set, length-set}
-use Rattle.writer.specs.Place.{leftOf}
+use Rattle.writer.specs.inner.Place.{leftOf}
 use Rattle.writer.proofs.Columns.{put-left-byte, left-nothing}
 use Rattle.writer.proofs.column.put_left.Statement.{statement}
 use Rattle.writer.proofs.column.put_left.Tie as tie

@@ -1,11 +1,13 @@
 -- `writer::lines::put_class` meets its contract.
 use mathlib.Core.Path.{ap, _∙_}
 use mathlib.Core.List.{List}
-use Prim.Native.Nat.{ℕ, _+_, _*_, _<_}
+use Prim.Native.Nat.{ℕ, _+_, _-_, _*_}
 use native.Mathlib.Omega.{arith}
 use borrow.Author.Needs.{needs}
-use lib.ListN.{length, getD}
-use Rattle.writer.specs.Place.{laid}
+use lib.ListN.{getD}
+use Rattle.theory.proofs.Numbers.Prime.{prime-pos}
+use Rattle.numbers.proofs.Saturated.{saturated-power}
+use Rattle.writer.specs.inner.Place.{laid}
 use Rattle.writer.proofs.ClassLines.{class-line}
 use Rattle.writer.proofs.lines.put_class.Statement.{statement}
 use Rattle.writer.proofs.lines.put_class.Tie as tie
@@ -36,11 +38,7 @@ cast-put-line-2 c =
     omega (arith, c .before .before .shared-slice-known4 .given (s .args .i))
 
 member-count-requires : tie.Need-member-count-requires
-member-count-requires c κs =
-    let s = c .before .before .before .before .before .before .before in
-    let fit = s .pre .0 in
-    let h : s .args .i < length (s .args .levels .now) = omega (arith, fit .same-levels, s .pre .1) in
-    (fit .levels-fit .positive, fit .levels-fit .within, fit .levels-fit .at (s .args .i) h)
+member-count-requires c κs = search needs
 
 shared-slice-read-put-line-2 : tie.Need-shared-slice-read-put-line-2
 shared-slice-read-put-line-2 c = search needs
@@ -62,10 +60,14 @@ returns c =
     let s = b .before .before .before .before .before .before .before .before .before .before in
     let a = s .args in
     let i = a .i in
+    let U = s .pre .0 .modulus in
+    let members =
+    saturated-power {t = a .n - getD (a .levels .now) i 0} (prime-pos (U .prime)) (omega arith) (U .within)
+    (b .before .before .member-count .ensures) in
     b .put-line .ensures
     ∙ ap (λ (l : List ℕ). laid (45 * (i + 1)) l (a .text .now))
     (class-line (a .p) (a .n) (getD (a .residues .now) i 0) (getD (a .levels .now) i 0) (b .before .before .member-count .result)
-    (getD (a .marks .now) i 0) (b .before .before .member-count .ensures))
+    (getD (a .marks .now) i 0) members)
 
 pub put-class-spec : {M : Type 1} → statement M
 put-class-spec =

@@ -4,7 +4,7 @@ use Prim.Native.Nat.{_-_, _≤_}
 use native.Mathlib.Omega.{arith}
 use borrow.Author.Needs.{needs}
 use lib.ListN.{length}
-use Rattle.writer.specs.Place.{laid}
+use Rattle.writer.specs.inner.Place.{laid}
 use Rattle.writer.proofs.ClassLines.{linesTo}
 use Rattle.writer.proofs.Listing.{lines-begin, lines-again, lines-end}
 use Rattle.writer.proofs.lines.put_classes.Statement.{statement}

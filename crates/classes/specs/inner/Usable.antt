@@ -1,0 +1,35 @@
+-- What the rules leave of a given list.
+use mathlib.Core.Path.{_≡_}
+use mathlib.Core.Bool.{false}
+use mathlib.Core.List.{List}
+use Prim.Native.Nat.{ℕ, _≤_, _<_}
+use lib.ListN.{length}
+use Rattle.theory.specs.Class.{Class, IsClass, share}
+use Rattle.theory.specs.ClassList.{slot}
+use Rattle.refusal.specs.Rules.{passes, tried}
+use Rattle.numbers.specs.Modulus.{Usable}
+use Rattle.classes.specs.Rule7.{classesOf}
+use Rattle.classes.specs.Checked.{givenRules, markedRules}
+
+-- each entry is a class, residues rise, and no two entries share a member
+pub record Faultless (p n : ℕ) (L : List Class) : Type 0 where
+  pub class-at : (i : ℕ) → i < length L → IsClass p n (slot L i)
+  pub rises : (i j : ℕ) → i < j → j < length L → slot L i .residue < slot L j .residue
+  pub apart : (i j : ℕ) → i < j → j < length L → share p (slot L i) (slot L j) ≡ false
+
+-- a list that the rules accept, with m for pⁿ
+pub record UsableList (p n : ℕ) (residues levels : List ℕ) (m : ℕ) : Type 0 where
+  pub accepted : tried (givenRules p n residues levels) ≡ passes
+  pub modulus : Usable p n m
+  pub same-length : length residues ≡ length levels
+  pub faultless : Faultless p n (classesOf residues levels)
+  pub few : length residues ≤ m
+
+-- the same with marks
+pub record UsableMarked (p n : ℕ) (residues levels marks : List ℕ) (m : ℕ) : Type 0 where
+  pub accepted : tried (markedRules p n residues levels marks) ≡ passes
+  pub modulus : Usable p n m
+  pub same-length : length residues ≡ length levels
+  pub same-marks : length residues ≡ length marks
+  pub faultless : Faultless p n (classesOf residues levels)
+  pub few : length residues ≤ m

@@ -1,0 +1,84 @@
+-- What an answer of the solver says: of its verdict, of p and n, and of the first slots of its lists.
+use mathlib.Core.Path.{_≡_, refl, sym, ap, _∙_}
+use mathlib.Core.List.{List, _∷_, map}
+use Prim.Native.Nat.{ℕ, _^_, _≤_}
+use native.Mathlib.Omega.{arith}
+use native.Mathlib.Nat.{min-le-right}
+use lib.IntN.{ℤ}
+use lib.ListN.{length, length-map, length-take, take, drop}
+use lib.Seq.{take-at}
+use Rattle.theory.specs.Polynomial.{roots}
+use Rattle.theory.specs.Class.{Class}
+use Rattle.theory.specs.ClassList.{residuesOf, levelsOf}
+use Rattle.theory.specs.Mark.{mark}
+use Rattle.theory.specs.Shortest.{count}
+use Rattle.refusal.specs.declared.Refusal.{Refusal}
+use Rattle.refusal.specs.Rules.{Verdict, passes, refuses, filled, rule2, rule3}
+use Rattle.refusal.proofs.Rules.{tried-first, tried-both}
+use Rattle.numbers.specs.Modulus.{modulusRules, Usable}
+use Rattle.numbers.proofs.Rules.{passes-usable}
+use Rattle.solver.specs.declared.Solved.the-variants.{Found, Refused}
+use Rattle.solver.specs.Solve.{Lists, polynomialRules, listRules, solution, marksOf, solverVerdict, solvedOf, foundOr, listsAfter}
+
+found-means : (v : Verdict) (a b k c : ℕ) → foundOr v a b ≡ Found k c → (v ≡ passes) × (k ≡ a) × (c ≡ b)
+found-means passes a b k c e = (refl, cc e, cc e)
+found-means (refuses r) a b k c e = let z : _≡_ {A = ℕ} 0 1 = cc e in absurd (omega arith)
+
+refused-means : (v : Verdict) (a b : ℕ) (r : Refusal) → foundOr v a b ≡ Refused r → v ≡ refuses r
+refused-means passes a b r e = let z : _≡_ {A = ℕ} 0 1 = cc e in absurd (omega arith)
+refused-means (refuses s) a b r e = let same : s ≡ r = cc e in ap refuses same
+
+module _ (f : List ℤ) (p n : ℕ) (given : Lists) where
+  -- a call that is refused
+  pub refused-verdict : (r : Refusal) → solvedOf f p n given ≡ Refused r → solverVerdict f p n given ≡ refuses r
+  unfolding solvedOf
+  refused-verdict r e = refused-means (solverVerdict f p n given) (length (solution f p n)) (count (roots f p n) p n) r e
+
+  -- rules that pass pass p and n
+  pub passes-modulus : solverVerdict f p n given ≡ passes → Usable p n (p ^ n)
+  unfolding solverVerdict
+  passes-modulus v =
+      let m = modulusRules p n in
+      let c = length f in
+      let all = tried-both (polynomialRules f p n) (listRules given (length (solution f p n))) v .0 in
+      passes-usable p n (tried-first (rule3 c) m (tried-first (rule2 c) (rule3 c ∷ m) all .1) .1) (p ^ n) refl
+
+  -- a call that is accepted, with k and the root count
+  module _ {k c : ℕ} (e : solvedOf f p n given ≡ Found k c) where
+    known : (solverVerdict f p n given ≡ passes) × (k ≡ length (solution f p n)) × (c ≡ count (roots f p n) p n)
+    unfolding solvedOf
+    known = found-means (solverVerdict f p n given) (length (solution f p n)) (count (roots f p n) p n) k c e
+
+    pub found-passes : solverVerdict f p n given ≡ passes
+    found-passes = known .0
+
+    pub found-number : k ≡ length (solution f p n)
+    found-number = known .1
+
+    pub found-count : c ≡ count (roots f p n) p n
+    found-count = known .2
+
+    -- the first k slots of a list that was filled
+    front : (h : Class → ℕ) (old : List ℕ)
+        → take k (filled (solverVerdict f p n given) (map h (solution f p n)) old) ≡ map h (solution f p n)
+    front h old =
+        let l = map h (solution f p n) in
+        rw found-passes (take-at l (drop (length l) old) k (length-map (solution f p n) h ∙ sym found-number))
+
+    pub found-residues : take k (listsAfter f p n given .residues) ≡ residuesOf (solution f p n)
+    unfolding listsAfter
+    found-residues = front (λ (x : Class). x .residue) (given .residues)
+
+    pub found-levels : take k (listsAfter f p n given .levels) ≡ levelsOf (solution f p n)
+    unfolding listsAfter
+    found-levels = front (λ (x : Class). x .level) (given .levels)
+
+    pub found-marks : take k (listsAfter f p n given .marks) ≡ marksOf f p n
+    unfolding listsAfter
+    found-marks = front (mark f p n) (given .marks)
+
+    -- each list has k slots
+    pub found-long : (h : Class → ℕ) (l : List ℕ) → take k l ≡ map h (solution f p n) → k ≤ length l
+    found-long h l q =
+        let long : length (take k l) ≡ k = ap length q ∙ length-map (solution f p n) h ∙ sym found-number in
+        omega (arith, long, length-take k l, min-le-right k (length l))

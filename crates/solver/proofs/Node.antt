@@ -1,0 +1,48 @@
+-- Nodes of the tree of digits: their numbers are within 32 bits, and the node below one at a digit is one.
+use mathlib.Core.Path.{_≡_, sym, ap, _∙_}
+use Prim.Native.Nat.{ℕ, suc, _+_, _-_, _*_, _^_, _≤_, _<_}
+use native.Mathlib.Nat.{mul-le-mul-left, pow-le-pow-right, pow-suc}
+use native.Mathlib.Omega.{arith}
+use Rattle.theory.specs.Class.{Class, class}
+use Rattle.theory.specs.inner.Tree.{deeper}
+use Rattle.theory.proofs.Numbers.Power.{exponent-lt}
+use Rattle.theory.proofs.Classes.Equal.{class-equal}
+use Rattle.solver.specs.declared.tree.Node.{Node}
+use Rattle.solver.specs.inner.Code.{code}
+use Rattle.solver.specs.inner.Recursion.{IsNode, childAt, within}
+
+module _ {p : ℕ} {x : Node} (N : IsNode p x) where
+  pos : 0 < p
+  pos = omega (arith, N .base)
+
+  pub level-lt : x .level + x .left < 32
+  level-lt = exponent-lt p (x .level + x .left) 32 (N .base) (omega (arith, N .fits))
+
+  pub power-le : x .power ≤ 4294967295
+  power-le =
+      omega (arith, N .power-is, N .fits, pow-le-pow-right {n = p} pos {i = x .level} {j = x .level + x .left} (omega arith))
+
+  -- so its class has a code
+  pub class-fits : (x .residue < 4294967296) × (x .level < 256)
+  class-fits = (omega (arith, N .residue-fits, power-le), omega (arith, level-lt))
+
+  pub child-node : {c : ℕ} → 0 < x .left → c < p → IsNode p (childAt x p c)
+  child-node {c} deep c-lt =
+      let one : x .level + 1 ≡ suc (x .level) = omega arith in
+      let same : x .level + 1 + (x .left - 1) ≡ x .level + x .left = omega arith in
+      record {
+        base = N .base;
+        power-is = ap (λ (q : ℕ). q * p) (N .power-is) ∙ sym (pow-suc p (x .level)) ∙ ap (λ (t : ℕ). p ^ t) (sym one);
+        residue-fits = omega (arith, N .residue-fits, mul-le-mul-left (x .power) c-lt);
+        fits = rw same (N .fits);
+      }
+
+-- a class below the digit c, seen from the node
+pub within-child : (x : Node) (p c : ℕ) (e : Class) → within (childAt x p c) e ≡ within x (deeper p c e)
+unfolding within deeper
+within-child x p c e = class-equal (omega arith) (omega arith)
+
+-- the node's class itself
+pub own-code : (x : Node) → code (within x (class 0 0)) ≡ x .residue * 256 + x .level
+unfolding code within
+own-code x = omega arith

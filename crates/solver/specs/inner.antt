@@ -1,0 +1,7 @@
+-- The words of the inner functions' contracts. Nobody has to believe them: they stand between the code and `Solve`.
+pub mod Table
+pub mod Code
+pub mod Sort
+pub mod Recursion
+pub mod Reduced
+pub mod UsablePolynomial

@@ -1,0 +1,26 @@
+-- The solver once the coefficients are reduced modulo pⁿ: what it answers and writes for a list w of residues.
+use mathlib.Core.List.{List, map}
+use Prim.Native.Nat.{ℕ}
+use lib.ListN.{length}
+use Rattle.theory.specs.Polynomial.{zeros}
+use Rattle.theory.specs.Class.{Class}
+use Rattle.theory.specs.Shortest.{shortest, count}
+use Rattle.theory.specs.Mark.{markOf}
+use Rattle.refusal.specs.Rules.{Verdict, tried}
+use Rattle.solver.specs.declared.Solved.{Solved}
+use Rattle.solver.specs.Solve.{Lists, listRules, listsFilled, foundOr}
+
+-- the classes of the zeros modulo pⁿ
+abbrev pub zeroClasses : List ℕ → ℕ → ℕ → List Class
+zeroClasses w p n = shortest (zeros w p n) p n
+
+-- rules 6 and 11
+unfoldable pub reducedVerdict : List ℕ → ℕ → ℕ → Lists → Verdict
+reducedVerdict w p n given = tried (listRules given (length (zeroClasses w p n)))
+
+abbrev pub reducedSolved : List ℕ → ℕ → ℕ → Lists → Solved
+reducedSolved w p n given = foundOr (reducedVerdict w p n given) (length (zeroClasses w p n)) (count (zeros w p n) p n)
+
+abbrev pub reducedLists : List ℕ → ℕ → ℕ → Lists → Lists
+reducedLists w p n given =
+    listsFilled (reducedVerdict w p n given) (zeroClasses w p n) (map (markOf w p) (zeroClasses w p n)) given

@@ -1,0 +1,78 @@
+// The solver once p and n are accepted and the coefficients are reduced: from a row of residues to the lent lists.
+ghost use mathlib.Core.Path.{_≡_};
+ghost use mathlib.Core.List.{map};
+ghost use Prim.Native.Nat.{_≤_, _<_};
+ghost use lib.ListN.{length, take};
+ghost use Rattle.numbers.specs.Modulus.{Usable};
+ghost use Rattle.solver.specs.Solve.{lists as listsOf};
+ghost use Rattle.solver.specs.inner.Table.{Below};
+ghost use Rattle.solver.specs.inner.Code.{code};
+ghost use Rattle.solver.specs.inner.Reduced.{zeroClasses, reducedSolved, reducedLists};
+use crate::Solved;
+use crate::lists;
+use crate::mark;
+use crate::sort;
+use crate::tree;
+use crate::tree::Node;
+use crate::tree::PrimePower;
+use refusal::Refusal;
+
+// The classes of the zeros modulo m = pⁿ of the polynomial whose coefficients are the first c of the row: their codes go, rising, into the
+// first entries of `codes`. Their number.
+fn zero_classes(row: [u32; 65], c: usize, p: u32, n: u32, m: u64, codes: &mut [u64]) -> usize
+    requires { ⌜ Usable p n m × (c ≤ 65) × Below m (take c row) × (64 ≤ length (now codes)) ⌝ }
+    ensures { λ r. ⌜ (r ≤ 64) × (take r (now (codes .exit)) ≡ map code (zeroClasses (take c row) p n)) ⌝ }
+{
+    let over = PrimePower {
+        p: p as u64,
+        exponent: n as u64,
+        power: m,
+    };
+    let everything = Node {
+        residue: 0,
+        power: 1,
+        level: 0,
+        left: n as u64,
+    };
+    let settled = tree::settle(row, c, over, everything, codes, 0);
+    let k = settled.k;
+    sort::sort(codes, k);
+    k
+}
+
+// The classes, their marks and the root count for the first c coefficients of the row. Rules 6 and 11; a refusal alters nothing.
+pub(crate) fn solve_reduced(
+    row: [u32; 65],
+    c: usize,
+    p: u32,
+    n: u32,
+    m: u64,
+    residues: &mut [u32],
+    levels: &mut [u8],
+    marks: &mut [u8],
+) -> Solved
+    requires { ⌜ Usable p n m × (0 < c) × (c ≤ 65) × Below m (take c row) ⌝ }
+    ensures answer { λ r. ⌜ r ≡ reducedSolved (take c row) p n
+        (listsOf (now (residues .entry)) (now (levels .entry)) (now (marks .entry))) ⌝ }
+    ensures lists { λ _. ⌜ listsOf (now (residues .exit)) (now (levels .exit)) (now (marks .exit))
+        ≡ reducedLists (take c row) p n (listsOf (now (residues .entry)) (now (levels .entry)) (now (marks .entry))) ⌝ }
+{
+    let slots = residues.len();
+    if slots != levels.len() || slots != marks.len() {
+        let shortest = numbers::smaller(slots, numbers::smaller(levels.len(), marks.len()));
+        return Solved::Refused(Refusal::Lengths(shortest));
+    }
+    let mut codes = [0u64; 64];
+    let k = zero_classes(row, c, p, n, m, &mut codes);
+    if slots < k {
+        return Solved::Refused(Refusal::TooFewSlots(k));
+    }
+    let classes = &codes[..k];
+    lists::write_residues(classes, residues);
+    lists::write_levels(classes, levels);
+    mark::write_marks(&row[..c], p as u64, classes, marks);
+    Solved::Found {
+        classes: k,
+        roots: numbers::member_total(p, n, &levels[..k]),
+    }
+}

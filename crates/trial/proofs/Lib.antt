@@ -1,3 +1,0 @@
--- Lemmas that the proofs of several functions need.
-pub mod Prefixes
-pub mod Remainders

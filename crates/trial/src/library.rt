@@ -1,0 +1,110 @@
+// Calls of the library on whole tables, with their answers as numbers.
+use crate::modular::Modulus;
+use crate::prefix;
+use classes::Next;
+use rootmap::Counted;
+use rootmap::Mapped;
+use solver::Solved;
+use solver::Tested;
+
+// The solver's answer and its lists after the call.
+pub(crate) struct Solution {
+    // the number of classes, and 65 for a refusal
+    pub(crate) k: usize,
+    pub(crate) roots: u64,
+    pub(crate) residues: [u32; 65],
+    pub(crate) levels: [u8; 65],
+    pub(crate) marks: [u8; 65],
+}
+
+// The solver's answer for the first c coefficients; every slot holds 77 before the call.
+pub(crate) fn solve(f: [i64; 65], c: usize, x: Modulus) -> Solution {
+    let mut residues = [77u32; 65];
+    let mut levels = [77u8; 65];
+    let mut marks = [77u8; 65];
+    match solver::solve(
+        prefix::coefficients(&f, c),
+        x.p,
+        x.n,
+        &mut residues,
+        &mut levels,
+        &mut marks,
+    ) {
+        Solved::Found { classes, roots } => Solution {
+            k: classes,
+            roots,
+            residues,
+            levels,
+            marks,
+        },
+        Solved::Refused(_) => Solution {
+            k: 65,
+            roots: 0,
+            residues,
+            levels,
+            marks,
+        },
+    }
+}
+
+// The test: 1 for yes, 0 for no, 2 for a refusal.
+pub(crate) fn test(f: [i64; 65], c: usize, x: Modulus, r: u32) -> u8 {
+    match solver::is_root(prefix::coefficients(&f, c), x.p, x.n, r) {
+        Tested::Yes => 1,
+        Tested::No => 0,
+        Tested::Refused(_) => 2,
+    }
+}
+
+// The next root from a point in the first k classes: m for none, 2^32 − 1 for a refusal.
+pub(crate) fn next(residues: [u32; 65], levels: [u8; 65], k: usize, x: Modulus, point: u32) -> u32 {
+    match classes::next_root(
+        x.p,
+        x.n,
+        prefix::words(&residues, k),
+        prefix::bytes(&levels, k),
+        point,
+    ) {
+        Next::Root(r) => r,
+        Next::None => x.m,
+        Next::Refused(_) => 4294967295,
+    }
+}
+
+// A map after a call, and whether it was filled.
+pub(crate) struct Map {
+    pub(crate) filled: bool,
+    pub(crate) bits: [u8; 64],
+}
+
+// The map of the first k classes, on bytes that are 255 before the call.
+pub(crate) fn fill(
+    residues: [u32; 65],
+    levels: [u8; 65],
+    k: usize,
+    x: Modulus,
+    bytes: usize,
+) -> Map {
+    let mut bits = [255u8; 64];
+    match rootmap::fill_map(
+        x.p,
+        x.n,
+        prefix::words(&residues, k),
+        prefix::bytes(&levels, k),
+        prefix::bytes_mut(&mut bits, bytes),
+    ) {
+        Mapped::Filled => Map { filled: true, bits },
+        Mapped::Refused(_) => Map {
+            filled: false,
+            bits,
+        },
+    }
+}
+
+// The count of a map's ones: 2^32 for a refusal.
+pub(crate) fn count(bits: [u8; 64], bytes: usize, x: Modulus) -> u64 {
+    match rootmap::count_map(x.p, x.n, prefix::bytes(&bits, bytes)) {
+        Counted::Ones(ones) => ones,
+        Counted::Refused(_) => 4294967296,
+    }
+}

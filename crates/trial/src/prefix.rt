@@ -1,0 +1,21 @@
+// The first entries of a list, or all of them where there are fewer.
+
+pub(crate) fn coefficients(list: &[i64], k: usize) -> &[i64] {
+    if k < list.len() { &list[0..k] } else { list }
+}
+
+pub(crate) fn words(list: &[u32], k: usize) -> &[u32] {
+    if k < list.len() { &list[0..k] } else { list }
+}
+
+pub(crate) fn bytes(list: &[u8], k: usize) -> &[u8] {
+    if k < list.len() { &list[0..k] } else { list }
+}
+
+pub(crate) fn bytes_mut<'a>(list: &'a mut [u8], k: usize) -> &'a mut [u8] {
+    if k < list.len() {
+        &mut list[0..k]
+    } else {
+        list
+    }
+}
