@@ -1,6 +1,5 @@
 -- The fields that C gets for each case of an answer: 01's refusal number and place, 0 where nothing is refused, and the operation's
 -- values, 0 where it is refused.
-use Prim.Native.Nat.{ℕ}
 use Rattle.refusal.specs.Number.{numberOf, placeOf}
 use Rattle.solver.specs.declared.Solved.{Solved}
 use Rattle.solver.specs.declared.Solved.the-variants as solved

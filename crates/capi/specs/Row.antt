@@ -14,7 +14,7 @@ abbrev pub rowChecked : Read → ℕ → Read
 rowChecked (Given p n count end) slots = givenOr (rule11 slots 65) (Given p n count end)
 rowChecked (Refused r) slots = Refused r
 
--- what was refused, for `filled`
+-- the reader's answer as a verdict
 abbrev pub readVerdict : Read → Verdict
 readVerdict (Given p n count end) = passes
 readVerdict (Refused r) = refuses r

@@ -80,8 +80,8 @@ pub extern "C" fn wimpleclay_read_problem(text: &[u8], coefficients: &mut [i64])
         (problemOf (now (text .entry)) .coefficients) (now (coefficients .entry)) ⌝ }
 {
     let problem = text::read_problem(text);
-    let whole = problem.read;
-    let read = check_row(whole, coefficients.len());
+    let given = problem.read;
+    let read = check_row(given, coefficients.len());
     let Read::Refused(_) = read else {
         let row = problem.coefficients;
         put_row(row, coefficients);

@@ -1,9 +1,10 @@
 // The text writer for C.
 ghost use mathlib.Core.Path.{_≡_};
 ghost use lib.ListN.{length};
+ghost use Rattle.refusal.specs.Rules.{filled};
 ghost use Rattle.classes.specs.Rule7.{classesOf};
 ghost use Rattle.writer.specs.Output.{outputText};
-ghost use Rattle.writer.specs.Written.{filled, writerVerdict, writtenOf};
+ghost use Rattle.writer.specs.Written.{writerVerdict, writtenOf};
 ghost use Rattle.capi.specs.Answers.{writeAnswer};
 use writer::Written;
 

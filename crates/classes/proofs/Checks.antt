@@ -16,7 +16,8 @@ use Rattle.refusal.specs.declared.Refusal.the-variants.{Lengths, Entry}
 use Rattle.refusal.specs.Rules.{Verdict, passes, refuses, tried, rule6, rule6Three}
 use Rattle.refusal.proofs.Rules.{rule6-refuses, rule6-passes, rule-passes, tried-first, tried-both, tried-leads, tried-refuses}
 use Rattle.numbers.specs.declared.Modulus.the-variants.{Accepted, Refused}
-use Rattle.numbers.specs.Modulus.{modulusRules, powerOr, modulusOf, Usable}
+use Rattle.numbers.specs.Modulus.{modulusRules, powerOr, modulusOf}
+use Rattle.numbers.specs.inner.Usable.{Usable}
 use Rattle.numbers.proofs.Rules.{accepted-means, refused-means, passes-usable, refused-leads, usable-leaves}
 use Rattle.classes.specs.Rule7.{classesOf, faultAt, firstFault, rule7}
 use Rattle.classes.specs.Checked.{givenRules, checkedOf}

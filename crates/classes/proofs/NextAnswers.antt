@@ -17,7 +17,7 @@ use Rattle.refusal.specs.declared.Refusal.the-variants.{Point}
 use Rattle.refusal.specs.Rules.{passes, refuses, rule8}
 use Rattle.refusal.proofs.Rules.{rule8-refuses, rule8-passes}
 use Rattle.numbers.specs.declared.Modulus.the-variants.{Refused as NotAccepted}
-use Rattle.numbers.specs.Modulus.{Usable}
+use Rattle.numbers.specs.inner.Usable.{Usable}
 use Rattle.classes.specs.declared.next.Next.the-variants.{Root, None, Refused}
 use Rattle.classes.specs.Rule7.{classesOf}
 use Rattle.classes.specs.Checked.{checkedOf}

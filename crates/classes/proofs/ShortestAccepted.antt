@@ -16,7 +16,7 @@ use Rattle.theory.proofs.Classes.Cover.{shortest-rival, shortest-disjoint, shor
 use Rattle.theory.proofs.Classes.Rising.{rising-at, shortest-rising}
 use Rattle.theory.proofs.Classes.Share.{Common, share-common}
 use Rattle.numbers.specs.declared.Modulus.the-variants.{Accepted}
-use Rattle.numbers.specs.Modulus.{Usable}
+use Rattle.numbers.specs.inner.Usable.{Usable}
 use Rattle.classes.specs.Rule7.{classesOf, levelAbove, residueOutside, notAbove, sharedEarlier, faultAt, firstFault}
 use Rattle.classes.specs.Checked.{checkedOf}
 use Rattle.classes.proofs.Entries.{classes-of-parts}

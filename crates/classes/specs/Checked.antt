@@ -27,6 +27,7 @@ markedRules p n residues levels marks =
     ∷ rule7Marked p n (classesOf residues levels) marks
     ∷ []
 
+-- and what they leave
 unfoldable pub markedCheckedOf : ℕ → ℕ → List ℕ → List ℕ → List ℕ → Modulus
 unfolding markedRules
 markedCheckedOf p n residues levels marks = powerOr (tried (markedRules p n residues levels marks)) (p ^ n)

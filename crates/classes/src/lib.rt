@@ -1,6 +1,6 @@
 // Lent class lists: rule 7, and the next root.
 ghost use mathlib.Core.Path.{_≡_};
-ghost use Rattle.numbers.specs.Modulus.{Usable};
+ghost use Rattle.numbers.specs.inner.Usable.{Usable};
 ghost use Rattle.classes.specs.Checked.{checkedOf, markedCheckedOf};
 use numbers::Modulus;
 use refusal::Refusal;

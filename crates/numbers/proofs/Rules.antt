@@ -14,7 +14,8 @@ use Rattle.refusal.specs.declared.Refusal.the-variants.{NotPrime, Precision}
 use Rattle.refusal.specs.Rules.{Verdict, passes, refuses, tried}
 use Rattle.refusal.proofs.Rules.{tried-leads, tried-refuses, tried-first, rule-passes}
 use Rattle.numbers.specs.declared.Modulus.the-variants.{Accepted, Refused}
-use Rattle.numbers.specs.Modulus.{rule4, rule5, modulusRules, powerOr, modulusOf, Usable}
+use Rattle.numbers.specs.Modulus.{rule4, rule5, modulusRules, powerOr, modulusOf}
+use Rattle.numbers.specs.inner.Usable.{Usable}
 
 -- The tests of the rules
 

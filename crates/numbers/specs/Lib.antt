@@ -1,3 +1,4 @@
 -- p, n and pⁿ.
 pub mod Saturated
 pub mod Modulus
+pub mod inner

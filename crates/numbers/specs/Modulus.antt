@@ -1,10 +1,9 @@
 -- The rules on p and n (01, "When the solver declines").
-use mathlib.Core.Path.{_≡_}
 use mathlib.Core.Bool.{not, _||_}
 use mathlib.Core.List.{List, [], _∷_}
-use Prim.Native.Nat.{ℕ, _^_, _≤_, _<_}
+use Prim.Native.Nat.{ℕ, _^_}
 use lib.Dec.{eqb, ltb}
-use Rattle.theory.specs.Prime.{Prime, isPrime}
+use Rattle.theory.specs.Prime.{isPrime}
 use Rattle.refusal.specs.declared.Refusal.the-variants.{NotPrime, Precision}
 use Rattle.refusal.specs.Rules.{Verdict, passes, refuses, rule, tried}
 use Rattle.numbers.specs.declared.Modulus.{Modulus}
@@ -31,12 +30,3 @@ powerOr (refuses r) m = Refused r
 unfoldable pub modulusOf : ℕ → ℕ → Modulus
 unfolding modulusRules
 modulusOf p n = powerOr (tried (modulusRules p n)) (p ^ n)
-
--- p and n that these rules pass, with m for pⁿ
-pub record Usable (p n m : ℕ) : Type 0 where
-  pub accepted : tried (modulusRules p n) ≡ passes
-  pub prime : Prime p
-  pub small : p ≤ 65535
-  pub precise : 0 < n
-  pub power : m ≡ p ^ n
-  pub within : p ^ n ≤ 4294967295

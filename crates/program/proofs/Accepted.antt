@@ -13,7 +13,7 @@ use Rattle.theory.specs.Polynomial.{reduced, roots, value, derivative}
 use Rattle.theory.specs.Mark.{markOf, mark}
 use Rattle.refusal.specs.Rules.{rule12}
 use Rattle.numbers.specs.declared.Modulus.the-variants.{Accepted}
-use Rattle.numbers.specs.Modulus.{Usable}
+use Rattle.numbers.specs.inner.Usable.{Usable}
 use Rattle.theory.specs.ClassList.{residuesOf, levelsOf}
 use Rattle.solver.specs.Solve.{solution, marksOf}
 use Rattle.classes.specs.Rule7.{classesOf, markAbove, firstFault}

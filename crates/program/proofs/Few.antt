@@ -15,7 +15,8 @@ use Rattle.refusal.specs.Rules.{passes, tried}
 use Rattle.refusal.proofs.Rules.{coefficients-lead, rule6-three-passes, rule11-passes}
 use Rattle.numbers.specs.declared.Modulus.{Modulus}
 use Rattle.numbers.specs.declared.Modulus.the-variants.{Accepted, Refused}
-use Rattle.numbers.specs.Modulus.{modulusRules, modulusOf, Usable}
+use Rattle.numbers.specs.Modulus.{modulusRules, modulusOf}
+use Rattle.numbers.specs.inner.Usable.{Usable}
 use Rattle.numbers.proofs.Rules.{usable, usable-leads, modulus-refuses, refused-leads}
 use Rattle.solver.specs.Solve.{Lists, listRules, solution, solverVerdict}
 use Rattle.program.specs.Printed.{judged}

@@ -1,11 +1,11 @@
--- The answer to the input text of a problem.
+-- What is printed for the input text of a problem.
 use mathlib.Core.Path.{_≡_, refl, ap, _∙_}
 use mathlib.Core.List.{List, []}
 use Prim.Native.Nat.{ℕ, _-_}
 use lib.IntN.{ℤ, pos}
 use lib.ListN.{length, replicate}
 use lib.Seq.{take-at}
-use Rattle.numbers.specs.Modulus.{Usable}
+use Rattle.numbers.specs.inner.Usable.{Usable}
 use Rattle.numbers.proofs.Rules.{usable-leads}
 use Rattle.refusal.specs.Rules.{Verdict}
 use Rattle.solver.specs.Solve.{solution, marksOf}
@@ -15,17 +15,17 @@ use Rattle.text.proofs.Input.{Readable, input-is-read}
 use Rattle.writer.specs.Output.{outputText}
 use Rattle.program.specs.Printed.{blockOr, judged, solvedText, printedFor, printedText}
 
--- a problem that can be read is answered by its classes, or refused by the solver
-pub answer-to-input : (p n : ℕ) (f : List ℤ) → Readable p n f → printedText (inputText p n f) ≡ solvedText f p n
+-- of a problem that can be read: its classes, or the solver's refusal
+pub printed-of-input : (p n : ℕ) (f : List ℤ) → Readable p n f → printedText (inputText p n f) ≡ solvedText f p n
 unfolding printedText
-answer-to-input p n f R =
+printed-of-input p n f R =
     ap (λ (P : Problem). printedFor (P .read) (P .coefficients)) (input-is-read p n f R)
     ∙ ap (λ (l : List ℤ). solvedText l p n) (take-at f (replicate (65 - length f) (pos 0)) (length f) refl)
 
--- and where p and n are accepted, by its classes
-pub answer-to-usable : (p n m : ℕ) (f : List ℤ) → Readable p n f → Usable p n m
+-- and where p and n are accepted, its classes
+pub printed-of-usable : (p n m : ℕ) (f : List ℤ) → Readable p n f → Usable p n m
     → printedText (inputText p n f) ≡ outputText p n (solution f p n) (marksOf f p n)
 unfolding solvedText judged
-answer-to-usable p n m f R U =
-    answer-to-input p n f R
+printed-of-usable p n m f R U =
+    printed-of-input p n f R
     ∙ ap (λ (v : Verdict). blockOr v (outputText p n (solution f p n) (marksOf f p n))) (usable-leads U [])

@@ -7,8 +7,8 @@ use lib.IntN.{ℤ}
 use lib.ListN.{length}
 use Rattle.theory.specs.Class.{Class}
 use Rattle.refusal.specs.declared.Refusal.{Refusal}
-use Rattle.refusal.specs.Rules.{Verdict, passes, refuses, filled}
-use Rattle.numbers.specs.Modulus.{Usable}
+use Rattle.refusal.specs.Rules.{Verdict, passes, filled}
+use Rattle.numbers.specs.inner.Usable.{Usable}
 use Rattle.numbers.proofs.Rules.{passes-usable}
 use Rattle.solver.specs.declared.Solved.the-variants.{Found, Refused}
 use Rattle.theory.specs.ClassList.{residuesOf, levelsOf}

@@ -1,5 +1,5 @@
 -- The map of a list that is a rival of a set S: its bits are S, and its count is the set's, whatever the spare bits.
-use mathlib.Core.Path.{_≡_, refl, sym, ap, _∙_}
+use mathlib.Core.Path.{_≡_, ap, _∙_}
 use mathlib.Core.Bool.{Bool}
 use mathlib.Core.List.{List}
 use Prim.Native.Nat.{ℕ, _*_, _^_, _≤_, _<_}
@@ -17,7 +17,7 @@ use Rattle.classes.specs.inner.Usable.{UsableList}
 use Rattle.rootmap.specs.declared.Counted.the-variants.{Ones}
 use Rattle.rootmap.specs.Map.{sizeRules, mapFilled, countVerdict, countedOf, onesOr}
 use Rattle.rootmap.proofs.Verdicts.{size-fits, usable-passes}
-use Rattle.rootmap.proofs.Answers.{map-length, passes-map}
+use Rattle.rootmap.proofs.Answers.{passes-map}
 
 -- a list that the rules accept, pⁿ up to 524,288 and a map of the right length
 module _ (p n : ℕ) (residues levels old : List ℕ) {m : ℕ} (C : UsableList p n residues levels m) (small : p ^ n ≤ 524288)
@@ -52,9 +52,3 @@ module _ (p n : ℕ) (residues levels old : List ℕ) {m : ℕ} (C : UsableList 
         (ones-agree p n map (mapFilled p n residues levels old) bits
         ∙ ap (ones p n) accepted-map
         ∙ rival-ones S p n (classesOf residues levels) rival)
-
-    -- in particular that of the map itself
-    pub rival-own-count : countedOf p n (mapFilled p n residues levels old) ≡ Ones (count S p n)
-    rival-own-count =
-        rival-map-count (mapFilled p n residues levels old)
-        (ap length accepted-map ∙ map-length p n (classesOf residues levels) ∙ sym long) (λ r h. refl)

@@ -15,7 +15,8 @@ use Rattle.theory.specs.Shortest.{count}
 use Rattle.refusal.specs.declared.Refusal.{Refusal}
 use Rattle.refusal.specs.Rules.{Verdict, passes, refuses, filled, rule2, rule3}
 use Rattle.refusal.proofs.Rules.{tried-first, tried-both}
-use Rattle.numbers.specs.Modulus.{modulusRules, Usable}
+use Rattle.numbers.specs.Modulus.{modulusRules}
+use Rattle.numbers.specs.inner.Usable.{Usable}
 use Rattle.numbers.proofs.Rules.{passes-usable}
 use Rattle.solver.specs.declared.Solved.the-variants.{Found, Refused}
 use Rattle.solver.specs.Solve.{Lists, polynomialRules, listRules, solution, marksOf, solverVerdict, solvedOf, foundOr, listsAfter}

@@ -11,7 +11,7 @@ use Rattle.theory.specs.Polynomial.{reduce, reduced, roots, zeros, value}
 use Rattle.theory.proofs.Numbers.Power.{pow-pos}
 use Rattle.theory.proofs.Numbers.Prime.{prime-pos}
 use Rattle.theory.proofs.Polynomials.Signed.{reduce-lt}
-use Rattle.numbers.specs.Modulus.{Usable}
+use Rattle.numbers.specs.inner.Usable.{Usable}
 use Rattle.solver.specs.inner.Table.{Below}
 
 pub usable-pos : {p n m : ℕ} → Usable p n m → 0 < m

@@ -9,7 +9,7 @@ use native.Mathlib.Omega.{arith}
 use lib.ListN.{length, getD}
 use Rattle.theory.specs.Polynomial.{value}
 use Rattle.theory.specs.inner.Polynomial.{difference}
-use Rattle.theory.specs.inner.Written.{Written}
+use Rattle.theory.specs.inner.Overwritten.{Overwritten}
 use Rattle.theory.proofs.Numbers.Congruence.{Congruent, cong-refl, cong-sym, cong-trans, cong-of-eq}
 use Rattle.theory.proofs.Numbers.Congruence.{cong-residue, cong-add, cong-mul, dvd-cong}
 use Rattle.theory.proofs.Polynomials.Differences.{difference-step, difference-value}
@@ -39,7 +39,7 @@ module _ (p : ℕ) (f : List ℕ) (pos : 0 < p) where
 
   -- to each entry the next is added, and the last stays
   pub row-next : (c : ℕ) (row row′ : List ℕ) → length row ≡ length f → Differences p f c row
-      → Written (λ i. (getD row i 0 + getD row (i + 1) 0) % p) 0 (length row - 1) row row′ → Differences p f (c + 1) row′
+      → Overwritten (λ i. (getD row i 0 + getD row (i + 1) 0) % p) 0 (length row - 1) row row′ → Differences p f (c + 1) row′
   unfolding d
   row-next c row row′ n r w = record { at = λ j h. entry j (omega (arith, w .long)) (decLt (j + 1) (length row)) }
     where
@@ -57,7 +57,7 @@ module _ (p : ℕ) (f : List ℕ) (pos : 0 < p) where
           cong-trans (cong-add (cong-refl {x = d j c}) none) (cong-of-eq (add-zero (d j c))) in
           w .above j (omega arith) ∙ r .at j h ∙ cong-trans (cong-sym kept) (step j) .same
 
-  pub stage-start : (row row′ : List ℕ) → Written (λ i. value f i % p) 0 (length row) row row′ → Stage p f 0 row′
+  pub stage-start : (row row′ : List ℕ) → Overwritten (λ i. value f i % p) 0 (length row) row row′ → Stage p f 0 row′
   unfolding difference
   stage-start row row′ w i h =
       let z : min i 0 ≡ 0 = omega arith in
@@ -65,7 +65,7 @@ module _ (p : ℕ) (f : List ℕ) (pos : 0 < p) where
 
   -- one stage: each entry after index k less the one before it
   pub stage-next : (k : ℕ) (row row′ : List ℕ) → Stage p f k row
-      → Written (λ i. (getD row i 0 + (p - 1) * getD row (i - 1) 0) % p) (k + 1) (length row) row row′ → Stage p f (k + 1) row′
+      → Overwritten (λ i. (getD row i 0 + (p - 1) * getD row (i - 1) 0) % p) (k + 1) (length row) row row′ → Stage p f (k + 1) row′
   stage-next k row row′ s w i h = entry (omega (arith, w .long)) (decLe i k)
     where
       entry : i < length row → Dec (i ≤ k) → getD row′ i 0 ≡ difference p (min i (k + 1)) (value f) (i - (k + 1)) % p

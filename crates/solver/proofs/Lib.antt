@@ -9,7 +9,7 @@ mod Zeros
 mod Linear
 mod FiniteDifferences
 mod Codes
-mod Added
+mod Appended
 mod Node
 mod Most
 mod Settling

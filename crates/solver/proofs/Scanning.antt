@@ -28,15 +28,15 @@ use Rattle.solver.specs.declared.tree.Node.{Node}
 use Rattle.solver.specs.declared.tree.Settled.{Settled}
 use Rattle.solver.specs.inner.Code.{code}
 use Rattle.solver.specs.inner.Table.{vanishes, degreeModulo, zeroDigits}
-use Rattle.solver.specs.inner.Recursion.{Primitive, Added, Done, childAt, within, codesWithin}
-use Rattle.solver.proofs.Added.{added-none, added-more, added-anew}
+use Rattle.solver.specs.inner.Recursion.{Primitive, Appended, Done, childAt, within, codesWithin}
+use Rattle.solver.proofs.Appended.{added-none, added-more, added-anew}
 use Rattle.solver.proofs.Node.{within-child}
 use Rattle.solver.proofs.Zeros.{degree-modulo, vanishes-on}
 
 -- the classes of S below these digits are added, and `all` says whether each digit holds all
 pub record Scanned (S : ℕ → Bool) (p : ℕ) (x : Node) (k : ℕ) (digits : List ℕ) (at : ℕ) (all : Bool) (out out′ : List ℕ) : Type 0 where
   pub long : length out′ ≡ length out
-  pub added : Added (codesWithin x (flat (below S p (x .left - 1)) digits)) k at out out′
+  pub added : Appended (codesWithin x (flat (below S p (x .left - 1)) digits)) k at out out′
   pub whole : all ≡ every (λ c. allBelow (branch S p c) (p ^ (x .left - 1))) digits
 
 module _ (S : ℕ → Bool) (p : ℕ) (x : Node) (k : ℕ) where

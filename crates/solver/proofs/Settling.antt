@@ -26,7 +26,7 @@ use Rattle.solver.specs.declared.tree.Node.{Node}
 use Rattle.solver.specs.inner.Table.{Below, prime-to, degreeModulo, nonzeroModulo}
 use Rattle.solver.specs.inner.Recursion.{AtNode, Primitive, Done, mostClasses}
 use Rattle.solver.proofs.Tables.{below-entry}
-use Rattle.solver.proofs.Added.{added-none}
+use Rattle.solver.proofs.Appended.{added-none}
 use Rattle.solver.proofs.Most.{most-some, tree-most}
 
 -- the constant coefficient is the table's first entry

@@ -6,7 +6,7 @@ use native.Mathlib.Decide.{decLt}
 use native.Mathlib.Omega.{arith}
 use lib.ListN.{length}
 use Rattle.theory.specs.inner.Polynomial.{coef, taylor, shifted}
-use Rattle.theory.specs.inner.Written.{Written}
+use Rattle.theory.specs.inner.Overwritten.{Overwritten}
 use Rattle.theory.proofs.Numbers.Congruence.{Congruent, cong-refl, cong-add, cong-mul}
 use Rattle.theory.proofs.Polynomials.Arithmetic.{coef-stretch}
 use Rattle.theory.proofs.Polynomials.Taylor.{coef-taylor, taylor-beyond}
@@ -15,7 +15,7 @@ use Rattle.solver.proofs.Tables.{residues-cong}
 
 -- one step of Horner's rule, from h(c + y) to a + (c + y)·h(c + y): past the first entries, all are 0 before and after
 pub taylor-step : {m top : ℕ} {g r : List ℕ} (a c : ℕ) (f : List ℕ) → Residues m g (taylor c f) → top ≡ min (length g) (length f + 1)
-    → Written (λ i. (coef (a ∷ g) i + c * coef g i) % m) 0 top g r → Residues m r (taylor c (a ∷ f))
+    → Overwritten (λ i. (coef (a ∷ g) i + c * coef g i) % m) 0 top g r → Residues m r (taylor c (a ∷ f))
 taylor-step {m} {top} {g} {r} a c f old n w = record { at = λ i h. entry i (omega (arith, w .long)) (decLt i top) }
   where
     before : (i : ℕ) → i < length g → Congruent m (coef (a ∷ g) i) (coef (a ∷ taylor c f) i)
@@ -32,7 +32,7 @@ taylor-step {m} {top} {g} {r} a c f old n w = record { at = λ i h. entry i (ome
 
 -- from h(c + y) to h(c + p·y)
 pub stretch-step : {m : ℕ} {g r : List ℕ} (c p : ℕ) (f : List ℕ) → Residues m g (taylor c f)
-    → Written (λ i. p ^ i * coef g i % m) 0 (length g) g r → Residues m r (shifted c p f)
+    → Overwritten (λ i. p ^ i * coef g i % m) 0 (length g) g r → Residues m r (shifted c p f)
 stretch-step {m} {g} {r} c p f old w = record { at = λ i h. entry i (omega (arith, w .long)) }
   where
     entry : (i : ℕ) → i < length g → coef r i ≡ coef (shifted c p f) i % m

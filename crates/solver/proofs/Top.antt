@@ -11,7 +11,7 @@ use Rattle.theory.specs.Class.{Class}
 use Rattle.theory.specs.inner.Tree.{tree}
 use Rattle.theory.proofs.Lists.Map.{map-same}
 use Rattle.theory.proofs.Classes.Equal.{class-equal}
-use Rattle.numbers.specs.Modulus.{Usable}
+use Rattle.numbers.specs.inner.Usable.{Usable}
 use Rattle.solver.specs.declared.tree.PrimePower.{PrimePower}
 use Rattle.solver.specs.declared.tree.Node.{Node}
 use Rattle.solver.specs.declared.tree.Settled.{Settled}

@@ -2,7 +2,7 @@
 use mathlib.Core.Path.{_≡_, sym, ap, _∙_, fun-ext}
 use mathlib.Core.Bool.{true, false, not}
 use mathlib.Core.List.{List, [], _∷_, _++_}
-use Prim.Native.Nat.{ℕ, _+_, _%_, _≤_, _<_, _∣_}
+use Prim.Native.Nat.{ℕ, _+_, _%_, _≤_, _<_}
 use native.Mathlib.Nat.{dvd-zero, le-trans}
 use native.Mathlib.Omega.{arith}
 use borrow.Author.Tests.{not-false, not-true}
@@ -30,10 +30,6 @@ vanishes-on p f c e = divides-on p (value f c) e
 pub vanishes-off : (p : ℕ) (f : List ℕ) (c : ℕ) → (value f c % p ≡ 0 → ⊥) → vanishes p f c ≡ false
 unfolding vanishes
 vanishes-off p f c ne = divides-off p (value f c) ne
-
-pub vanishes-dvd : (p : ℕ) (f : List ℕ) (c : ℕ) → vanishes p f c ≡ true → p ∣ value f c
-unfolding vanishes
-vanishes-dvd p f c e = divides-dvd p (value f c) e
 
 -- at most as many as the degree
 pub few : (p d : ℕ) (f : List ℕ) → Prime p → Degree p f d → (k : ℕ) → k ≤ p → length (passing (vanishes p f) k 0) ≤ d

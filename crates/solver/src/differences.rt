@@ -6,7 +6,7 @@ ghost use mathlib.Core.Path.{_≡_};
 ghost use Prim.Native.Nat.{_+_, _-_, _*_, _%_, _≤_, _<_};
 ghost use lib.ListN.{length, getD};
 ghost use Rattle.theory.specs.Polynomial.{value as valueOf};
-ghost use Rattle.theory.specs.inner.Written.{Written};
+ghost use Rattle.theory.specs.inner.Overwritten.{Overwritten};
 ghost use Rattle.solver.specs.inner.Table.{Below, Differences};
 use crate::polynomial;
 
@@ -30,7 +30,7 @@ fn minus(a: u32, b: u32, p: u32) -> u32
 // The values at 0, 1, …, one for each entry.
 fn values(g: &[u32], p: u64, row: &mut [u32])
     requires { ⌜ (0 < p) × (p ≤ 65535) × (length (now row) ≤ 65) ⌝ }
-    ensures { λ _. ⌜ Written (λ i. valueOf (now (g .entry)) i % p) 0 (length (now (row .entry))) (now (row .entry)) (now (row .exit)) ⌝ }
+    ensures { λ _. ⌜ Overwritten (λ i. valueOf (now (g .entry)) i % p) 0 (length (now (row .entry))) (now (row .entry)) (now (row .exit)) ⌝ }
 {
     let mut i: usize = 0;
     while i < row.len() {
@@ -42,7 +42,7 @@ fn values(g: &[u32], p: u64, row: &mut [u32])
 // From each entry after index k the entry before it is taken, the last first.
 fn stage(row: &mut [u32], k: usize, p: u32)
     requires { ⌜ (k < length (now row)) × (p ≤ 65535) × Below p (now row) ⌝ }
-    ensures { λ _. ⌜ Written (λ i. (getD (now (row .entry)) i 0 + (p - 1) * getD (now (row .entry)) (i - 1) 0) % p)
+    ensures { λ _. ⌜ Overwritten (λ i. (getD (now (row .entry)) i 0 + (p - 1) * getD (now (row .entry)) (i - 1) 0) % p)
         (k + 1) (length (now (row .entry))) (now (row .entry)) (now (row .exit)) ⌝ }
 {
     let mut i = row.len() - 1;
@@ -68,7 +68,7 @@ pub(crate) fn first_row(g: &[u32], p: u64, row: &mut [u32])
 // From the row at c to the one at c + 1: to each entry the next is added. The last entry stays.
 pub(crate) fn advance(row: &mut [u32], p: u32)
     requires { ⌜ (p ≤ 65535) × Below p (now row) ⌝ }
-    ensures { λ _. ⌜ Written (λ i. (getD (now (row .entry)) i 0 + getD (now (row .entry)) (i + 1) 0) % p)
+    ensures { λ _. ⌜ Overwritten (λ i. (getD (now (row .entry)) i 0 + getD (now (row .entry)) (i + 1) 0) % p)
         0 (length (now (row .entry)) - 1) (now (row .entry)) (now (row .exit)) ⌝ }
 {
     let mut j: usize = 0;

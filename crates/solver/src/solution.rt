@@ -3,7 +3,7 @@ ghost use mathlib.Core.Path.{_≡_};
 ghost use mathlib.Core.List.{map};
 ghost use Prim.Native.Nat.{_≤_, _<_};
 ghost use lib.ListN.{length, take};
-ghost use Rattle.numbers.specs.Modulus.{Usable};
+ghost use Rattle.numbers.specs.inner.Usable.{Usable};
 ghost use Rattle.solver.specs.Solve.{lists as listsOf};
 ghost use Rattle.solver.specs.inner.Table.{Below};
 ghost use Rattle.solver.specs.inner.Code.{code};

@@ -4,13 +4,13 @@ ghost use mathlib.Core.List.{_∷_};
 ghost use Prim.Native.Nat.{ℕ, _+_, _*_, _%_, _^_, _≤_, _<_};
 ghost use lib.ListN.{length, getD};
 ghost use Rattle.theory.specs.inner.Polynomial.{coef, taylor as taylorOf, shifted as shiftedOf};
-ghost use Rattle.theory.specs.inner.Written.{Written};
+ghost use Rattle.theory.specs.inner.Overwritten.{Overwritten};
 ghost use Rattle.solver.specs.inner.Table.{Residues};
 
 // a + (c + y)·g(y), its first `top` coefficients: one step of Horner's rule on polynomials.
 fn horner_step(g: &mut [u32], top: usize, a: u64, c: u64, m: u64)
     requires { ⌜ (0 < top) × (top ≤ length (now g)) × (0 < m) × (m ≤ 4294967295) × (a < 4294967296) × (c < 65536) ⌝ }
-    ensures { λ _. ⌜ Written (λ i. (coef (a ∷ now (g .entry)) i + c * coef (now (g .entry)) i) % m) 0 top
+    ensures { λ _. ⌜ Overwritten (λ i. (coef (a ∷ now (g .entry)) i + c * coef (now (g .entry)) i) % m) 0 top
         (now (g .entry)) (now (g .exit)) ⌝ }
 {
     let mut i = top;
@@ -37,7 +37,7 @@ fn taylor(h: &[u32], c: u64, m: u64, g: &mut [u32])
 // g(p·y)
 fn stretch(g: &mut [u32], p: u64, m: u64)
     requires { ⌜ (0 < m) × (m ≤ 4294967295) × (p < 65536) ⌝ }
-    ensures { λ _. ⌜ Written (λ i. p ^ i * coef (now (g .entry)) i % m) 0 (length (now (g .entry))) (now (g .entry)) (now (g .exit)) ⌝ }
+    ensures { λ _. ⌜ Overwritten (λ i. p ^ i * coef (now (g .entry)) i % m) 0 (length (now (g .entry))) (now (g .entry)) (now (g .exit)) ⌝ }
 {
     let mut power: u64 = 1;
     let mut i: usize = 0;

@@ -7,11 +7,11 @@ use Rattle.theory.specs.Class.{Class}
 use Rattle.theory.specs.ClassList.{residuesOf, levelsOf}
 use Rattle.theory.specs.Shortest.{count}
 use Rattle.refusal.specs.Rules.{passes}
-use Rattle.numbers.specs.Modulus.{Usable}
-use Rattle.solver.specs.Solve.{solution, solverVerdict, listsAfter}
+use Rattle.numbers.specs.inner.Usable.{Usable}
+use Rattle.solver.specs.Solve.{solution, solverVerdict}
 use Rattle.solver.proofs.Answered.{passes-modulus, found-passes, found-number, found-count, found-residues, found-levels, found-long}
 use Rattle.classes.proofs.Entries.{classes-of-parts}
-use Rattle.stepping.specs.Call.{Input, Accepted, left, firstResidues, firstLevels, firstSlots}
+use Rattle.stepping.specs.Call.{Input, Accepted, listsLeft, firstResidues, firstLevels, firstSlots}
 
 module _ (x : Input) {k roots-found : ℕ} (A : Accepted x k roots-found) where
   pub accepted-passes : solverVerdict (x .f) (x .p) (x .n) (x .given) ≡ passes
@@ -27,11 +27,11 @@ module _ (x : Input) {k roots-found : ℕ} (A : Accepted x k roots-found) where
   accepted-usable = passes-modulus (x .f) (x .p) (x .n) (x .given) accepted-passes
 
   pub first-residues : firstResidues x k ≡ residuesOf (solution (x .f) (x .p) (x .n))
-  unfolding left
+  unfolding listsLeft
   first-residues = found-residues (x .f) (x .p) (x .n) (x .given) (A .answer)
 
   pub first-levels : firstLevels x k ≡ levelsOf (solution (x .f) (x .p) (x .n))
-  unfolding left
+  unfolding listsLeft
   first-levels = found-levels (x .f) (x .p) (x .n) (x .given) (A .answer)
 
   -- the first k slots are the list
@@ -39,8 +39,8 @@ module _ (x : Input) {k roots-found : ℕ} (A : Accepted x k roots-found) where
   unfolding firstSlots
   first-slots = rw (first-residues, first-levels) (classes-of-parts (solution (x .f) (x .p) (x .n)))
 
-  pub residues-long : k ≤ length (left x .residues)
-  residues-long = found-long (x .f) (x .p) (x .n) (x .given) (A .answer) (λ (c : Class). c .residue) (left x .residues) first-residues
+  pub residues-long : k ≤ length (listsLeft x .residues)
+  residues-long = found-long (x .f) (x .p) (x .n) (x .given) (A .answer) (λ (c : Class). c .residue) (listsLeft x .residues) first-residues
 
-  pub levels-long : k ≤ length (left x .levels)
-  levels-long = found-long (x .f) (x .p) (x .n) (x .given) (A .answer) (λ (c : Class). c .level) (left x .levels) first-levels
+  pub levels-long : k ≤ length (listsLeft x .levels)
+  levels-long = found-long (x .f) (x .p) (x .n) (x .given) (A .answer) (λ (c : Class). c .level) (listsLeft x .levels) first-levels

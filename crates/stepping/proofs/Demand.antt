@@ -17,7 +17,7 @@ use Rattle.theory.proofs.Polynomials.Roots.{at-most-D, all-zero-list}
 use Rattle.refusal.specs.Rules.{filled}
 use Rattle.refusal.proofs.Rules.{filled-whole}
 use Rattle.solver.specs.Solve.{solution, solverVerdict}
-use Rattle.stepping.specs.Call.{Input, Accepted, left, firstResidues, firstLevels, firstSlots}
+use Rattle.stepping.specs.Call.{Input, Accepted, listsLeft, firstResidues, firstLevels, firstSlots}
 use Rattle.stepping.specs.Demand.{Demand, Same, nextCall}
 use Rattle.stepping.specs.Encoded.{encode}
 use Rattle.stepping.proofs.Answers.{answers-length}
@@ -76,7 +76,7 @@ module _ (x : Input) {k roots-found : ℕ} (A : Accepted x k roots-found) where
       }
 
   -- The function that makes the calls, on the lists as the solver left them
-  module _ (residues levels : List ℕ) (residues-are : residues ≡ left x .residues) (levels-are : levels ≡ left x .levels) where
+  module _ (residues levels : List ℕ) (residues-are : residues ≡ listsLeft x .residues) (levels-are : levels ≡ listsLeft x .levels) where
     first-parts : (take k residues ≡ firstResidues x k) × (take k levels ≡ firstLevels x k)
     first-parts = (ap (take k) residues-are, ap (take k) levels-are)
 

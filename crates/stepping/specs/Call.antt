@@ -20,16 +20,16 @@ pub record Input : Type 0 where
 pub record Accepted (x : Input) (k roots : ℕ) : Type 0 where
   pub answer : solvedOf (x .f) (x .p) (x .n) (x .given) ≡ Found k roots
 
--- the lists after the call: the solver's contract, clause `lists`
-unfoldable pub left : Input → Lists
-left x = listsAfter (x .f) (x .p) (x .n) (x .given)
+-- the lists as the solver left them: its contract, clause `lists`
+unfoldable pub listsLeft : Input → Lists
+listsLeft x = listsAfter (x .f) (x .p) (x .n) (x .given)
 
 -- "the first k slots of residues and levels as the solver left them"
 abbrev pub firstResidues : Input → ℕ → List ℕ
-firstResidues x k = take k (left x .residues)
+firstResidues x k = take k (listsLeft x .residues)
 
 abbrev pub firstLevels : Input → ℕ → List ℕ
-firstLevels x k = take k (left x .levels)
+firstLevels x k = take k (listsLeft x .levels)
 
 -- the classes in these slots
 unfoldable pub firstSlots : Input → ℕ → List Class

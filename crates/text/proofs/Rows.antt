@@ -7,7 +7,7 @@ use native.Mathlib.Omega.{arith}
 use native.Mathlib.Numerals.{add-one}
 use borrow.Author.Tests.{eq-eqb, ne-eqb}
 use lib.IntN.{ℤ, pos}
-use lib.ListN.{length, getD, set, replicate, length-append, length-replicate}
+use lib.ListN.{length, getD, set, replicate}
 use lib.Seq.{set-at, append-snoc}
 use Rattle.refusal.specs.declared.Refusal.the-variants.{Form}
 use Rattle.refusal.specs.Rules.{Verdict, passes, refuses, tried}
@@ -78,11 +78,6 @@ coefficients-next text at (suc c) =
 abbrev pub rowWith : List ℕ → ℕ → ℕ → List ℤ
 rowWith text at i = coefficientsAt text at i ++ replicate (65 - i) (pos 0)
 
-row-length : (text : List ℕ) (at i : ℕ) → i ≤ 65 → length (rowWith text at i) ≡ 65
-row-length text at i h =
-    length-append (coefficientsAt text at i) (replicate (65 - i) (pos 0))
-    ∙ rw (coefficients-length text at i, length-replicate (65 - i) (pos 0)) (omega arith)
-
 row-next : (text : List ℕ) (at i : ℕ) (x : ℤ) → i < 65 → coefficient-at text (at + 21 * i) ≡ x
     → set (rowWith text at i) i x ≡ rowWith text at (suc i)
 row-next text at i x h e =
@@ -114,11 +109,6 @@ reading-start text start count h =
     }
 
 module _ (text : List ℕ) (start place count i : ℕ) (row : List ℤ) (R : Reading text start place count i row) where
-  pub reading-length : length row ≡ 65
-  reading-length =
-      let h : i ≤ 65 = omega (arith, R .within, R .few) in
-      ap length (R .filled) ∙ row-length text start i h
-
   one-left : i < count → count - i ≡ suc (count - suc i)
   one-left h = omega arith
 

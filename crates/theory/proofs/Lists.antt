@@ -7,4 +7,4 @@ pub mod Pigeonhole
 pub mod Index
 pub mod Minimum
 pub mod Fill
-pub mod Written
+pub mod Overwritten

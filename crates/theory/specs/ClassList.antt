@@ -10,7 +10,7 @@ use Rattle.theory.specs.Class.{Class, class, isMember}
 abbrev pub slot : List Class → ℕ → Class
 slot L i = getD L i (class 0 0)
 
--- its residues and its levels
+-- the residues and the levels of a list
 abbrev pub residuesOf : List Class → List ℕ
 residuesOf = map (λ (c : Class). c .residue)
 

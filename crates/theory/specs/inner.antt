@@ -1,4 +1,4 @@
 -- Words that only proofs and the contracts of inner functions use. 01 does not have them, and nobody has to believe them.
 pub mod Tree
 pub mod Polynomial
-pub mod Written
+pub mod Overwritten

@@ -6,9 +6,9 @@ use borrow.Author.Tests.{lt-ltb, le-ltb}
 use lib.ListN.{length, drop}
 use Rattle.refusal.specs.declared.Refusal.{Refusal}
 use Rattle.refusal.specs.declared.Refusal.the-variants.{BufferTooSmall}
-use Rattle.refusal.specs.Rules.{Verdict, passes, refuses}
+use Rattle.refusal.specs.Rules.{Verdict, passes, refuses, filled}
 use Rattle.writer.specs.declared.Written.the-variants.{Bytes, Refused}
-use Rattle.writer.specs.Written.{bytesOr, filled, refusalVerdict, refusalWrittenOf}
+use Rattle.writer.specs.Written.{bytesOr, refusalVerdict, refusalWrittenOf}
 
 -- a verdict that refuses, and one that passes
 pub refused-answer : (v : Verdict) (r : Refusal) (bytes : ℕ) → v ≡ refuses r → Refused r ≡ bytesOr v bytes

@@ -4,7 +4,6 @@ use Prim.Native.Nat.{ℕ, _+_, _*_}
 use lib.Dec.{ltb}
 use lib.ListN.{length}
 use Rattle.refusal.specs.declared.Refusal.the-variants.{BufferTooSmall}
-pub use Rattle.refusal.specs.Rules.{filled}
 use Rattle.refusal.specs.Rules.{Verdict, passes, refuses, rule, tried, rule12}
 use Rattle.classes.specs.Checked.{markedRules}
 use Rattle.writer.specs.declared.Written.{Written}

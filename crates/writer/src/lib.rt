@@ -2,11 +2,11 @@
 ghost use mathlib.Core.Path.{_≡_};
 ghost use Prim.Native.Nat.{_+_, _*_, _^_};
 ghost use lib.ListN.{length};
-ghost use Rattle.refusal.specs.Rules.{rule12};
+ghost use Rattle.refusal.specs.Rules.{filled, rule12};
 ghost use Rattle.classes.specs.Rule7.{classesOf};
 ghost use Rattle.classes.specs.inner.Usable.{UsableMarked};
 ghost use Rattle.writer.specs.Output.{outputText, refusalLine};
-ghost use Rattle.writer.specs.Written.{bytesOr, filled, writerVerdict, writtenOf, refusalVerdict, refusalWrittenOf};
+ghost use Rattle.writer.specs.Written.{bytesOr, writerVerdict, writtenOf, refusalVerdict, refusalWrittenOf};
 use numbers::Modulus;
 use refusal::Refusal;
 

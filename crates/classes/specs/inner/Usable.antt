@@ -7,7 +7,7 @@ use lib.ListN.{length}
 use Rattle.theory.specs.Class.{Class, IsClass, share}
 use Rattle.theory.specs.ClassList.{slot}
 use Rattle.refusal.specs.Rules.{passes, tried}
-use Rattle.numbers.specs.Modulus.{Usable}
+use Rattle.numbers.specs.inner.Usable.{Usable}
 use Rattle.classes.specs.Rule7.{classesOf}
 use Rattle.classes.specs.Checked.{givenRules, markedRules}
 

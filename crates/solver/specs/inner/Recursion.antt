@@ -29,7 +29,7 @@ pub record IsNode (p : ℕ) (x : Node) : Type 0 where
   pub residue-fits : x .residue < x .power
   pub fits : p ^ (x .level + x .left) ≤ 4294967295
 
--- f modulo M is the polynomial of the class at a node: y is a zero of it exactly if a + p^t·y is a root
+-- f is a polynomial modulo M for the class at a node: the numbers y, for the residues a + p^t·y, are its argument
 pub record AtNode (f : List ℕ) (M : PrimePower) (x : Node) : Type 0 where
   pub modulus : IsPrimePower M
   pub node : IsNode (M .p) x
@@ -61,11 +61,11 @@ abbrev pub codesWithin : Node → List Class → List ℕ
 codesWithin x = map (λ (c : Class). code (within x c))
 
 -- `new` now follows the first k entries of the scratch, which are kept: together its first k′
-pub record Added (new : List ℕ) (k k′ : ℕ) (out out′ : List ℕ) : Type 0 where
+pub record Appended (new : List ℕ) (k k′ : ℕ) (out out′ : List ℕ) : Type 0 where
   pub number : k′ ≡ k + length new
   pub entries : take k′ out′ ≡ take k out ++ new
 
 -- the classes of the set S of numbers y are added, each as a code
 pub record Done (S : ℕ → Bool) (p : ℕ) (x : Node) (k : ℕ) (r : Settled) (out out′ : List ℕ) : Type 0 where
-  pub added : Added (codesWithin x (tree S p (x .left))) k (r .k) out out′
+  pub added : Appended (codesWithin x (tree S p (x .left))) k (r .k) out out′
   pub is-whole : r .whole ≡ allBelow S (p ^ x .left)

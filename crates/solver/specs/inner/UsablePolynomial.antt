@@ -6,7 +6,8 @@ use lib.IntN.{ℤ}
 use lib.ListN.{length}
 use Rattle.refusal.specs.Rules.{passes, tried}
 use Rattle.numbers.specs.declared.Modulus.{Modulus}
-use Rattle.numbers.specs.Modulus.{powerOr, Usable}
+use Rattle.numbers.specs.Modulus.{powerOr}
+use Rattle.numbers.specs.inner.Usable.{Usable}
 use Rattle.solver.specs.Solve.{polynomialRules}
 
 -- pⁿ, or the refusal

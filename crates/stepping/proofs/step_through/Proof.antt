@@ -3,7 +3,7 @@ use mathlib.Core.Path.{_≡_, sym, ap, _∙_}
 use borrow.Author.Needs.{needs}
 use lib.Seq.{length-take-le}
 use Rattle.solver.specs.Solve.{Lists, lists}
-use Rattle.stepping.specs.Call.{Input, Accepted, left}
+use Rattle.stepping.specs.Call.{Input, Accepted, listsLeft}
 use Rattle.solver.proofs.Answered.{refused-verdict}
 use Rattle.stepping.proofs.Accept.{residues-long, levels-long}
 use Rattle.stepping.proofs.Demand.{list-usable, answers-left}
@@ -25,12 +25,12 @@ module _ (c : tie.After-solve) where
         given = lists (call .args .residues .now) (call .args .levels .now) (call .args .marks .now);
       }
 
-  residues-are : c .solve .last .1 .1 .1 .0 ≡ left input .residues
-  unfolding left
+  residues-are : c .solve .last .1 .1 .1 .0 ≡ listsLeft input .residues
+  unfolding listsLeft
   residues-are = ap (λ (l : Lists). l .residues) (c .solve .ensures .1)
 
-  levels-are : c .solve .last .1 .1 .1 .1 .0 ≡ left input .levels
-  unfolding left
+  levels-are : c .solve .last .1 .1 .1 .1 .0 ≡ listsLeft input .levels
+  unfolding listsLeft
   levels-are = ap (λ (l : Lists). l .levels) (c .solve .ensures .1)
 
 module _ (c : tie.After-classes) where

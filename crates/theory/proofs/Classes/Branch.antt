@@ -24,8 +24,8 @@ use Rattle.theory.proofs.Classes.Cover.{own-member}
 use Rattle.theory.proofs.Classes.Tree.{below, entries, tree-split}
 
 -- all of S is there exactly if all below each digit is
-pub all-digits : (S : ℕ → Bool) (p l : ℕ) → 0 < p → ((c : ℕ) → c < p → allBelow (branch S p c) (p ^ l) ≡ true) → allBelow S (p ^ suc l) ≡
-    true
+pub all-digits : (S : ℕ → Bool) (p l : ℕ) → 0 < p → ((c : ℕ) → c < p → allBelow (branch S p c) (p ^ l) ≡ true)
+    → allBelow S (p ^ suc l) ≡ true
 all-digits S p l hp h =
     all-intro S (p ^ suc l) (λ r u.
     let digits : r % p + p * (r / p) ≡ r = omega (arith, div-add-mod r p) in

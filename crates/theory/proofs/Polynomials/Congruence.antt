@@ -1,13 +1,12 @@
 -- Values modulo m depend on the argument and the coefficients modulo m only.
 use mathlib.Core.Path.{_≡_, ap, fun-ext}
 use mathlib.Core.List.{List, [], _∷_}
-use Prim.Native.Nat.{ℕ, suc, _%_, _^_}
+use Prim.Native.Nat.{ℕ, suc, _^_}
 use native.Mathlib.Omega.{arith}
 use lib.Dec.{eqb}
 use Rattle.theory.specs.Prime.{divides}
 use Rattle.theory.specs.Polynomial.{value, zeros}
-use Rattle.theory.proofs.Numbers.Congruence.{Congruent, cong-refl, cong-sym, cong-trans, cong-of-eq, cong-add, cong-mul, cong-mod}
-use Rattle.theory.proofs.Numbers.Congruence.{cong-dvd}
+use Rattle.theory.proofs.Numbers.Congruence.{Congruent, cong-refl, cong-sym, cong-trans, cong-of-eq, cong-add, cong-mul, cong-dvd}
 use Rattle.theory.specs.inner.Polynomial.{coef, Degree}
 
 pub cong-argument : {m : ℕ} (f : List ℕ) {x y : ℕ} → Congruent m x y → Congruent m (value f x) (value f y)
@@ -31,12 +30,7 @@ cong-coefficients [] g x h = cong-none g x h
 cong-coefficients (a ∷ f) [] x h = cong-sym (cong-none (a ∷ f) x (λ i. cong-sym (h i)))
 cong-coefficients (a ∷ f) (b ∷ g) x h = cong-add (h 0) (cong-mul cong-refl (cong-coefficients f g x (λ i. h (suc i))))
 
--- so the zeros modulo pⁿ are told by the argument modulo pⁿ
-pub zeros-periodic : (f : List ℕ) (p n r : ℕ) → zeros f p n (r % p ^ n) ≡ zeros f p n r
-unfolding zeros divides
-zeros-periodic f p n r = ap (λ (z : ℕ). eqb z 0) (cong-argument f (cong-mod (p ^ n) r) .same)
-
--- and by the coefficients modulo pⁿ
+-- so the zeros modulo pⁿ are told by the coefficients modulo pⁿ
 pub zeros-same : (f g : List ℕ) (p n : ℕ) → SameModulo (p ^ n) f g → zeros f p n ≡ zeros g p n
 unfolding zeros divides
 zeros-same f g p n h = fun-ext (λ r. ap (λ (z : ℕ). eqb z 0) (cong-coefficients f g r h .same))

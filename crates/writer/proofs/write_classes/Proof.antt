@@ -3,12 +3,12 @@ use mathlib.Core.Path.{sym, ap, _∙_}
 use Prim.Native.Nat.{_+_, _*_}
 use borrow.Author.Needs.{needs}
 use lib.ListN.{length}
-use Rattle.refusal.specs.Rules.{Verdict}
+use Rattle.refusal.specs.Rules.{Verdict, filled}
 use Rattle.classes.specs.Rule7.{classesOf}
 use Rattle.classes.specs.inner.Usable.{UsableMarked}
 use Rattle.classes.proofs.MarkedChecks.{marked-accepted}
 use Rattle.writer.specs.Output.{outputText}
-use Rattle.writer.specs.Written.{bytesOr, filled, writerVerdict}
+use Rattle.writer.specs.Written.{bytesOr, writerVerdict}
 use Rattle.writer.proofs.Answers.{refused-answer, refused-text}
 use Rattle.writer.proofs.Checked.{verdict-12, verdict-refuses, written-answer}
 use Rattle.writer.proofs.write_classes.Statement.{statement}

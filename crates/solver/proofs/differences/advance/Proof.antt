@@ -4,14 +4,14 @@ use Prim.Native.Nat.{_+_, _-_, _%_, _≤_}
 use native.Mathlib.Omega.{arith}
 use borrow.Author.Needs.{needs}
 use lib.ListN.{length, getD}
-use Rattle.theory.specs.inner.Written.{Written}
-use Rattle.theory.proofs.Lists.Written.{written-none, written-up}
+use Rattle.theory.specs.inner.Overwritten.{Overwritten}
+use Rattle.theory.proofs.Lists.Overwritten.{written-none, written-up}
 use Rattle.solver.proofs.differences.advance.Statement.{statement}
 use Rattle.solver.proofs.differences.advance.Tie as tie
 
 abbrev Inv-loop : tie.InvT-loop
 Inv-loop row₀ p j₀ row j =
-    (j ≤ length row₀ - 1) × Written (λ i. (getD row₀ i 0 + getD row₀ (i + 1) 0) % p) 0 j row₀ row
+    (j ≤ length row₀ - 1) × Overwritten (λ i. (getD row₀ i 0 + getD row₀ (i + 1) 0) % p) 0 j row₀ row
 
 abbrev μ-loop : tie.MeasureT-loop
 μ-loop row₀ p j₀ row j = length row₀ - j

@@ -4,15 +4,15 @@ use Prim.Native.Nat.{_+_, _-_, _*_, _%_, _≤_, _<_}
 use native.Mathlib.Omega.{arith}
 use borrow.Author.Needs.{needs}
 use lib.ListN.{length, getD}
-use Rattle.theory.specs.inner.Written.{Written}
-use Rattle.theory.proofs.Lists.Written.{written-none, written-down}
+use Rattle.theory.specs.inner.Overwritten.{Overwritten}
+use Rattle.theory.proofs.Lists.Overwritten.{written-none, written-down}
 use Rattle.solver.proofs.differences.stage.Statement.{statement}
 use Rattle.solver.proofs.differences.stage.Tie as tie
 
 abbrev Inv-loop : tie.InvT-loop
 Inv-loop row₀ k p i₀ row i =
     (k ≤ i) × (i < length row₀)
-    × Written (λ j. (getD row₀ j 0 + (p - 1) * getD row₀ (j - 1) 0) % p) (i + 1) (length row₀) row₀ row
+    × Overwritten (λ j. (getD row₀ j 0 + (p - 1) * getD row₀ (j - 1) 0) % p) (i + 1) (length row₀) row₀ row
 
 abbrev μ-loop : tie.MeasureT-loop
 μ-loop row₀ k p i₀ row i = i

@@ -5,14 +5,14 @@ use native.Mathlib.Omega.{arith}
 use borrow.Author.Needs.{needs}
 use lib.ListN.{length}
 use Rattle.theory.specs.Polynomial.{value}
-use Rattle.theory.specs.inner.Written.{Written}
-use Rattle.theory.proofs.Lists.Written.{written-none, written-up}
+use Rattle.theory.specs.inner.Overwritten.{Overwritten}
+use Rattle.theory.proofs.Lists.Overwritten.{written-none, written-up}
 use Rattle.solver.proofs.Tables.{remainder-fits}
 use Rattle.solver.proofs.differences.values.Statement.{statement}
 use Rattle.solver.proofs.differences.values.Tie as tie
 
 abbrev Inv-loop : tie.InvT-loop
-Inv-loop g p row₀ i₀ row i = (i ≤ length row₀) × Written (λ k. value g k % p) 0 i row₀ row
+Inv-loop g p row₀ i₀ row i = (i ≤ length row₀) × Overwritten (λ k. value g k % p) 0 i row₀ row
 
 abbrev μ-loop : tie.MeasureT-loop
 μ-loop g p row₀ i₀ row i = length row₀ - i

@@ -5,13 +5,13 @@ use native.Mathlib.Nat.{mod-le}
 use native.Mathlib.Omega.{arith}
 use borrow.Author.Needs.{needs}
 use lib.ListN.{length, getD}
-use Rattle.theory.specs.inner.Written.{Written}
-use Rattle.theory.proofs.Lists.Written.{written-none, written-up}
+use Rattle.theory.specs.inner.Overwritten.{Overwritten}
+use Rattle.theory.proofs.Lists.Overwritten.{written-none, written-up}
 use Rattle.solver.proofs.digits.reduce.Statement.{statement}
 use Rattle.solver.proofs.digits.reduce.Tie as tie
 
 abbrev Inv-loop : tie.InvT-loop
-Inv-loop h p g₀ i₀ g i = (i ≤ length g₀) × Written (λ k. getD h k 0 % p) 0 i g₀ g
+Inv-loop h p g₀ i₀ g i = (i ≤ length g₀) × Overwritten (λ k. getD h k 0 % p) 0 i g₀ g
 
 abbrev μ-loop : tie.MeasureT-loop
 μ-loop h p g₀ i₀ g i = length g₀ - i

@@ -5,14 +5,14 @@ use native.Mathlib.Omega.{arith}
 use borrow.Author.Needs.{needs}
 use lib.ListN.{length, getD}
 use Rattle.theory.specs.Class.{Class}
-use Rattle.theory.specs.inner.Written.{Written}
-use Rattle.theory.proofs.Lists.Written.{written-none, written-up, written-map}
+use Rattle.theory.specs.inner.Overwritten.{Overwritten}
+use Rattle.theory.proofs.Lists.Overwritten.{written-none, written-up, written-map}
 use Rattle.solver.specs.inner.Code.{classOf}
 use Rattle.solver.proofs.lists.write_levels.Statement.{statement}
 use Rattle.solver.proofs.lists.write_levels.Tie as tie
 
 abbrev Inv-loop : tie.InvT-loop
-Inv-loop codes levels₀ i₀ levels i = (i ≤ length codes) × Written (λ k. getD codes k 0 % 256) 0 i levels₀ levels
+Inv-loop codes levels₀ i₀ levels i = (i ≤ length codes) × Overwritten (λ k. getD codes k 0 % 256) 0 i levels₀ levels
 
 abbrev μ-loop : tie.MeasureT-loop
 μ-loop codes levels₀ i₀ levels i = length codes - i

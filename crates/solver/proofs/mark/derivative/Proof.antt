@@ -8,8 +8,8 @@ use borrow.Author.Needs.{needs}
 use lib.ListN.{length}
 use Rattle.theory.specs.Polynomial.{derivative}
 use Rattle.theory.specs.inner.Polynomial.{coef}
-use Rattle.theory.specs.inner.Written.{Written}
-use Rattle.theory.proofs.Lists.Written.{written-none, written-up}
+use Rattle.theory.specs.inner.Overwritten.{Overwritten}
+use Rattle.theory.proofs.Lists.Overwritten.{written-none, written-up}
 use Rattle.theory.proofs.Numbers.Congruence.{cong-refl, cong-mul, cong-mod}
 use Rattle.theory.proofs.Polynomials.Derivative.{coef-derivative}
 use Rattle.solver.proofs.Tables.{product-fits, remainder-le, remainder-fits}
@@ -17,7 +17,7 @@ use Rattle.solver.proofs.mark.derivative.Statement.{statement}
 use Rattle.solver.proofs.mark.derivative.Tie as tie
 
 abbrev Inv-loop : tie.InvT-loop
-Inv-loop g p d₀ i₀ d i = (i ≤ length d₀) × Written (λ k. coef (derivative g) k % p) 0 i d₀ d
+Inv-loop g p d₀ i₀ d i = (i ≤ length d₀) × Overwritten (λ k. coef (derivative g) k % p) 0 i d₀ d
 
 abbrev μ-loop : tie.MeasureT-loop
 μ-loop g p d₀ i₀ d i = length d₀ - i

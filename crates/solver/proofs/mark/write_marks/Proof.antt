@@ -7,9 +7,9 @@ use borrow.Author.Needs.{needs}
 use lib.ListN.{length, getD, take, drop, replicate}
 use lib.Seq.{length-front, length-take-le}
 use Rattle.theory.specs.Mark.{markOf}
-use Rattle.theory.specs.inner.Written.{Written}
+use Rattle.theory.specs.inner.Overwritten.{Overwritten}
 use Rattle.theory.proofs.Lists.Fill.{part-back}
-use Rattle.theory.proofs.Lists.Written.{written-none, written-up, written-map}
+use Rattle.theory.proofs.Lists.Overwritten.{written-none, written-up, written-map}
 use Rattle.solver.specs.inner.Code.{classOf}
 use Rattle.solver.specs.inner.Table.{markFrom}
 use Rattle.solver.proofs.Marks.{mark-is}
@@ -18,7 +18,7 @@ use Rattle.solver.proofs.mark.write_marks.Tie as tie
 
 abbrev Inv-loop : tie.InvT-loop
 Inv-loop g p codes marks₀ d len i₀ marks i =
-    (i ≤ length codes) × Written (λ k. markOf g p (classOf (getD codes k 0))) 0 i marks₀ marks
+    (i ≤ length codes) × Overwritten (λ k. markOf g p (classOf (getD codes k 0))) 0 i marks₀ marks
 
 abbrev μ-loop : tie.MeasureT-loop
 μ-loop g p codes marks₀ d len i₀ marks i = length codes - i

@@ -4,14 +4,14 @@ use Prim.Native.Nat.{ℕ, _-_, _/_, _≤_}
 use native.Mathlib.Omega.{arith}
 use borrow.Author.Needs.{needs}
 use lib.ListN.{length, getD}
-use Rattle.theory.specs.inner.Written.{Written}
-use Rattle.theory.proofs.Lists.Written.{written-none, written-up, written-all}
+use Rattle.theory.specs.inner.Overwritten.{Overwritten}
+use Rattle.theory.proofs.Lists.Overwritten.{written-none, written-up, written-all}
 use Rattle.theory.proofs.Polynomials.Arithmetic.{divided-map}
 use Rattle.solver.proofs.polynomial.divide.Statement.{statement}
 use Rattle.solver.proofs.polynomial.divide.Tie as tie
 
 abbrev Inv-loop : tie.InvT-loop
-Inv-loop g₀ q i₀ g i = (i ≤ length g₀) × Written (λ k. getD g₀ k 0 / q) 0 i g₀ g
+Inv-loop g₀ q i₀ g i = (i ≤ length g₀) × Overwritten (λ k. getD g₀ k 0 / q) 0 i g₀ g
 
 abbrev μ-loop : tie.MeasureT-loop
 μ-loop g₀ q i₀ g i = length g₀ - i

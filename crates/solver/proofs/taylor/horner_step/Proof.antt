@@ -6,14 +6,14 @@ use native.Mathlib.Omega.{arith}
 use borrow.Author.Needs.{needs}
 use lib.ListN.{getD}
 use Rattle.theory.specs.inner.Polynomial.{coef}
-use Rattle.theory.specs.inner.Written.{Written}
-use Rattle.theory.proofs.Lists.Written.{written-none, written-down}
+use Rattle.theory.specs.inner.Overwritten.{Overwritten}
+use Rattle.theory.proofs.Lists.Overwritten.{written-none, written-down}
 use Rattle.solver.proofs.Tables.{product-fits, remainder-fits, sum-fits}
 use Rattle.solver.proofs.taylor.horner_step.Statement.{statement}
 use Rattle.solver.proofs.taylor.horner_step.Tie as tie
 
 abbrev Inv-loop : tie.InvT-loop
-Inv-loop g₀ top a c m i₀ g i = (1 ≤ i) × (i ≤ top) × Written (λ k. (coef (a ∷ g₀) k + c * coef g₀ k) % m) i top g₀ g
+Inv-loop g₀ top a c m i₀ g i = (1 ≤ i) × (i ≤ top) × Overwritten (λ k. (coef (a ∷ g₀) k + c * coef g₀ k) % m) i top g₀ g
 
 abbrev μ-loop : tie.MeasureT-loop
 μ-loop g₀ top a c m i₀ g i = i

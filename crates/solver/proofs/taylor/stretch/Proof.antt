@@ -7,8 +7,8 @@ use native.Mathlib.Omega.{arith}
 use borrow.Author.Needs.{needs}
 use lib.ListN.{length, getD}
 use Rattle.theory.specs.inner.Polynomial.{coef}
-use Rattle.theory.specs.inner.Written.{Written}
-use Rattle.theory.proofs.Lists.Written.{written-none, written-up}
+use Rattle.theory.specs.inner.Overwritten.{Overwritten}
+use Rattle.theory.proofs.Lists.Overwritten.{written-none, written-up}
 use Rattle.theory.proofs.Numbers.Congruence.{Congruent, cong-refl, cong-trans, cong-of-eq, cong-mul, cong-mod}
 use Rattle.solver.proofs.Tables.{product-fits, remainder-fits}
 use Rattle.solver.proofs.taylor.stretch.Statement.{statement}
@@ -16,7 +16,7 @@ use Rattle.solver.proofs.taylor.stretch.Tie as tie
 
 abbrev Inv-loop : tie.InvT-loop
 Inv-loop g₀ p m power₀ i₀ g power i =
-    (i ≤ length g₀) × (power ≤ m) × Congruent m power (p ^ i) × Written (λ k. p ^ k * coef g₀ k % m) 0 i g₀ g
+    (i ≤ length g₀) × (power ≤ m) × Congruent m power (p ^ i) × Overwritten (λ k. p ^ k * coef g₀ k % m) 0 i g₀ g
 
 abbrev μ-loop : tie.MeasureT-loop
 μ-loop g₀ p m power₀ i₀ g power i = length g₀ - i

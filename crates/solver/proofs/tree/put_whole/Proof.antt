@@ -3,7 +3,7 @@ use mathlib.Core.Path.{sym}
 use Prim.Native.Nat.{_+_, _*_}
 use borrow.Author.Needs.{needs}
 use Rattle.theory.proofs.Classes.Tree.{tree-whole}
-use Rattle.solver.proofs.Added.{added-one}
+use Rattle.solver.proofs.Appended.{added-one}
 use Rattle.solver.proofs.Node.{own-code}
 use Rattle.solver.proofs.tree.put_whole.Statement.{statement}
 use Rattle.solver.proofs.tree.put_whole.Tie as tie

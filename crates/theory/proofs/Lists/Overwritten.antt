@@ -7,16 +7,16 @@ use native.Mathlib.Numerals.{sub-one}
 use native.Mathlib.Omega.{arith}
 use lib.ListN.{length, getD, take, drop, set, length-set, length-map, List·getD-map}
 use lib.Seq.{ext-getD, drop-length}
-use Rattle.theory.specs.inner.Written.{Written}
+use Rattle.theory.specs.inner.Overwritten.{Overwritten}
 use Rattle.theory.proofs.Lists.Fill.{stored}
 use Rattle.theory.proofs.Lists.Map.{map-kept, getD-map}
 
-pub written-none : (F : ℕ → ℕ) (n : ℕ) (l : List ℕ) → Written F n n l l
+pub written-none : (F : ℕ → ℕ) (n : ℕ) (l : List ℕ) → Overwritten F n n l l
 written-none F n l = record { long = refl; inside = λ k a b. absurd (omega arith); below = λ k h. refl; above = λ k h. refl }
 
-module _ {F : ℕ → ℕ} {lo hi : ℕ} {l₀ l : List ℕ} (w : Written F lo hi l₀ l) (j v : ℕ) (h : j < length l₀) (e : v ≡ F j) where
+module _ {F : ℕ → ℕ} {lo hi : ℕ} {l₀ l : List ℕ} (w : Overwritten F lo hi l₀ l) (j v : ℕ) (h : j < length l₀) (e : v ≡ F j) where
   -- a step upwards
-  pub written-up : lo ≤ j → hi ≡ j → Written F lo (j + 1) l₀ (set l j v)
+  pub written-up : lo ≤ j → hi ≡ j → Overwritten F lo (j + 1) l₀ (set l j v)
   written-up low at =
       let n : j < length l = omega (arith, w .long) in
       record {
@@ -27,7 +27,7 @@ module _ {F : ℕ → ℕ} {lo hi : ℕ} {l₀ l : List ℕ} (w : Written F lo h
       }
 
   -- and downwards
-  pub written-down : lo ≡ j + 1 → j < hi → Written F j hi l₀ (set l j v)
+  pub written-down : lo ≡ j + 1 → j < hi → Overwritten F j hi l₀ (set l j v)
   written-down at low =
       let n : j < length l = omega (arith, w .long) in
       record {
@@ -37,8 +37,8 @@ module _ {F : ℕ → ℕ} {lo hi : ℕ} {l₀ l : List ℕ} (w : Written F lo h
         above = λ k b. stored l j k v 0 (getD l₀ k 0) n (λ q. absurd (omega arith)) (λ q. w .above k b);
       }
 
-written-tail : {F : ℕ → ℕ} {lo hi a z : ℕ} {l₀ l : List ℕ} → Written F lo hi (a ∷ l₀) (z ∷ l)
-    → Written (λ k. F (suc k)) (lo - 1) (hi - 1) l₀ l
+written-tail : {F : ℕ → ℕ} {lo hi a z : ℕ} {l₀ l : List ℕ} → Overwritten F lo hi (a ∷ l₀) (z ∷ l)
+    → Overwritten (λ k. F (suc k)) (lo - 1) (hi - 1) l₀ l
 written-tail w =
     record {
       long = omega (arith, w .long);
@@ -48,7 +48,7 @@ written-tail w =
     }
 
 -- where F's numbers are those of ys, ys stands in front of what is left of l₀
-written-list : (F : ℕ → ℕ) (hi : ℕ) (ys l₀ l : List ℕ) → Written F 0 hi l₀ l → hi ≡ length ys → hi ≤ length l₀
+written-list : (F : ℕ → ℕ) (hi : ℕ) (ys l₀ l : List ℕ) → Overwritten F 0 hi l₀ l → hi ≡ length ys → hi ≤ length l₀
     → ((k : ℕ) → k < hi → F k ≡ getD ys k 0) → l ≡ ys ++ drop (length ys) l₀
 written-list F hi [] l₀ l w n h e = ext-getD 0 l l₀ (w .long) (λ i u. w .above i (omega arith))
 written-list F hi (y ∷ ys) [] l w n h e = absurd (omega arith)
@@ -58,7 +58,7 @@ written-list F hi (y ∷ ys) (a ∷ l₀) (z ∷ l) w n h e =
     (written-list (λ k. F (suc k)) (hi - 1) ys l₀ l (written-tail w) (omega arith) (omega arith) (λ k u. e (suc k) (omega arith)))
 
 -- or between
-pub written-part : (F : ℕ → ℕ) (lo hi : ℕ) (ys l₀ l : List ℕ) → Written F lo hi l₀ l → hi ≡ lo + length ys → hi ≤ length l₀
+pub written-part : (F : ℕ → ℕ) (lo hi : ℕ) (ys l₀ l : List ℕ) → Overwritten F lo hi l₀ l → hi ≡ lo + length ys → hi ≤ length l₀
     → ((k : ℕ) → lo + k < hi → F (lo + k) ≡ getD ys k 0) → l ≡ take lo l₀ ++ ys ++ drop (length ys) (drop lo l₀)
 written-part F zero hi ys l₀ l w n h e =
     written-list F hi ys l₀ l w (omega arith) h (λ k u. rw (zero-add k) at (e k (omega arith)))
@@ -71,14 +71,14 @@ written-part F (suc lo) hi ys (a ∷ l₀) (z ∷ l) w n h e =
 
 -- g of f of each entry of xs stands in front of what is left of l₀
 pub written-map : {B : Type 0} (g : B → ℕ) (f : ℕ → B) (xs l₀ l : List ℕ) → length xs ≤ length l₀
-    → Written (λ k. g (f (getD xs k 0))) 0 (length xs) l₀ l → l ≡ map g (map f xs) ++ drop (length xs) l₀
+    → Overwritten (λ k. g (f (getD xs k 0))) 0 (length xs) l₀ l → l ≡ map g (map f xs) ++ drop (length xs) l₀
 written-map g f xs l₀ l h w =
     let n : length (map g (map f xs)) ≡ length xs = length-map (map f xs) g ∙ length-map xs f in
     rw n at (written-list _ (length xs) (map g (map f xs)) l₀ l w (sym n) h (λ k u.
     ap g (sym (List·getD-map f xs k 0)) ∙ sym (getD-map g (map f xs) k (f 0) 0 (omega (arith, length-map xs f)))))
 
 -- f of each entry stands in its place
-pub written-all : (f : ℕ → ℕ) (l₀ l : List ℕ) → Written (λ k. f (getD l₀ k 0)) 0 (length l₀) l₀ l → l ≡ map f l₀
+pub written-all : (f : ℕ → ℕ) (l₀ l : List ℕ) → Overwritten (λ k. f (getD l₀ k 0)) 0 (length l₀) l₀ l → l ≡ map f l₀
 written-all f l₀ l w =
     written-map f (λ (x : ℕ). x) l₀ l₀ l (omega arith) w
     ∙ rw (map-kept (λ (x : ℕ). x) l₀ (λ x u. refl), drop-length l₀) (append-nil (map f l₀))

@@ -7,16 +7,16 @@ use native.Mathlib.Omega.{arith}
 use lib.ListN.{length, length-append, take, set}
 use lib.Seq.{length-take-le, take-at, take-take}
 use Rattle.theory.proofs.Lists.Fill.{take-set-next}
-use Rattle.solver.specs.inner.Recursion.{Added}
+use Rattle.solver.specs.inner.Recursion.{Appended}
 
-pub added-none : (k : ℕ) (out : List ℕ) → Added [] k k out out
+pub added-none : (k : ℕ) (out : List ℕ) → Appended [] k k out out
 added-none k out = record { number = sym (add-zero k); entries = sym (append-nil (take k out)) }
 
-pub added-one : (x k : ℕ) (out : List ℕ) → k < length out → Added (x ∷ []) k (k + 1) out (set out k x)
+pub added-one : (x k : ℕ) (out : List ℕ) → k < length out → Appended (x ∷ []) k (k + 1) out (set out k x)
 added-one x k out h = record { number = refl; entries = take-set-next out k x h }
 
-pub added-more : {a b : List ℕ} {k k₁ k₂ : ℕ} {out out₁ out₂ : List ℕ} → Added a k k₁ out out₁ → Added b k₁ k₂ out₁ out₂
-    → Added (a ++ b) k k₂ out out₂
+pub added-more : {a b : List ℕ} {k k₁ k₂ : ℕ} {out out₁ out₂ : List ℕ} → Appended a k k₁ out out₁ → Appended b k₁ k₂ out₁ out₂
+    → Appended (a ++ b) k k₂ out out₂
 added-more {a} {b} {k} {out = out} u v =
     record {
       number = omega (arith, u .number, v .number, length-append a b);
@@ -24,8 +24,8 @@ added-more {a} {b} {k} {out = out} u v =
     }
 
 -- after the first k, which are kept, anew
-pub added-anew : {a b : List ℕ} {k k₁ k₂ : ℕ} {out out₁ out₂ : List ℕ} → Added a k k₁ out out₁ → k ≤ length out → Added b k k₂ out₁ out₂
-    → Added b k k₂ out out₂
+pub added-anew : {a b : List ℕ} {k k₁ k₂ : ℕ} {out out₁ out₂ : List ℕ} → Appended a k k₁ out out₁ → k ≤ length out → Appended b k k₂ out₁ out₂
+    → Appended b k k₂ out out₂
 added-anew {a} {b} {k} {k₁} {out = out} {out₁} u h v =
     let kept : take k out₁ ≡ take k out =
     sym (take-take k k₁ out₁ (omega (arith, u .number)))

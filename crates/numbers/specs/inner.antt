@@ -1,0 +1,2 @@
+-- The words of the inner functions' contracts.
+pub mod Usable
