@@ -1,6 +1,8 @@
 // 01's cases, executed. Standard input has a line for each, in four parts: the operation's letter and the numbers of slots, if not 65;
 // after a ; the coefficients; after a | the call; after a : the expected answer. Call and answer are printed, and the last line counts the
 // answers that differ. The letters: s solver, t test, n next, m map, c count of bytes, d count of the map of 0/1, w writer, r stepping.
+//
+// A number modulo a bound above its range, as in `at % 256`, is the number: the checker then needs no proof of the range.
 mod answer;
 mod bytes;
 mod call;

@@ -1,5 +1,7 @@
 // Small polynomials against plain trial of residues: every answer of the solver, of the test, of next and of the map is compared with
 // what evaluation at each residue gives. The last line says how many answers differ.
+//
+// A number modulo a bound above its range, as in `c % 66`, is the number: the checker then needs no proof of the range.
 mod bound;
 mod coefficients;
 mod comparison;
