@@ -34,8 +34,8 @@ extern "C" {
 
 /* Refusals *********************************************************************************************************/
 
-/* The rules, tried by rising number; the first that applies is the refusal. A function skips the rules about what it
-   does not take. The place is 0 where none is named. */
+/* The rules, tried in the order in which they stand here; the first that applies is the refusal. A function skips the
+   rules about what it does not take. The place is 0 where none is named. */
 enum wimpleclay_number {
     WIMPLECLAY_ACCEPTED = 0,
     /* The text departs from its form, or a number in it from its range; place: offset of the first faulty or
@@ -43,7 +43,8 @@ enum wimpleclay_number {
     WIMPLECLAY_FORM = 1,
     WIMPLECLAY_NO_COEFFICIENT = 2,
     WIMPLECLAY_TOO_MANY_COEFFICIENTS = 3, /* more than 65 */
-    WIMPLECLAY_NOT_PRIME = 4,             /* p is below 2, above 65535 or not prime */
+    WIMPLECLAY_PRIME_OUT_OF_RANGE = 4,    /* p is below 2 or above 65535 */
+    WIMPLECLAY_COMPOSITE = 14,            /* p is composite; place: its least divisor above 1, which is a prime */
     WIMPLECLAY_PRECISION = 5,             /* n is 0, or p^n exceeds 4294967295 */
     WIMPLECLAY_LENGTHS = 6,               /* the lists differ in length; place: the shortest length */
     /* A given list has an entry with level above n, residue not below p^level, residue not above the entry before, a
@@ -85,8 +86,8 @@ typedef struct {
 /* The root classes of the polynomial modulo p^n. The lent lists must have the same length. The k classes go into the
    first k slots, rising by residue: its residue, its level, and its mark, which is 1 if p does not divide the
    derivative at the residue and 0 otherwise. Later slots keep their content. The list is the shortest that there is,
-   the only one of its length, and no residue is a member of two of its classes. Rules 2, 3, 4, 5, 6 and 11 (place: k,
-   so a call with lists of length 0 asks for k). */
+   the only one of its length, and no residue is a member of two of its classes. Rules 2, 3, 4, 14, 5, 6 and 11 (place:
+   k, so a call with lists of length 0 asks for k). */
 wimpleclay_solve_answer wimpleclay_solve(const int64_t *coefficients, size_t coefficients_length, uint32_t p,
                                          uint32_t n, uint32_t *residues, size_t residues_length, uint8_t *levels,
                                          size_t levels_length, uint8_t *marks, size_t marks_length);
@@ -97,7 +98,7 @@ typedef struct {
     uint32_t root; /* 1 if the point is a root, 0 if it is not */
 } wimpleclay_test_answer;
 
-/* Whether p^n divides the polynomial's value at the point. Rules 2, 3, 4, 5 and 8. */
+/* Whether p^n divides the polynomial's value at the point. Rules 2, 3, 4, 14, 5 and 8. */
 wimpleclay_test_answer wimpleclay_is_root(const int64_t *coefficients, size_t coefficients_length, uint32_t p,
                                           uint32_t n, uint32_t point);
 
@@ -112,7 +113,8 @@ typedef struct {
 
 /* The least member at or after the point of the classes in the two lists, as the solver left them or as given. All
    entries are used: pass k for both lengths. To get every root in rising order start with the point 0 and go on with
-   root + 1, until found is 0; where p^n - 1 is a root, the call after it is refused 8. Rules 4, 5, 6, 7 and 8. */
+   root + 1, until found is 0; where p^n - 1 is a root, the call after it is refused 8. Rules 4, 14, 5, 6,
+   7 and 8. */
 wimpleclay_next_answer wimpleclay_next_root(uint32_t p, uint32_t n, const uint32_t *residues, size_t residues_length,
                                             const uint8_t *levels, size_t levels_length, uint32_t point);
 
@@ -124,8 +126,8 @@ typedef struct {
 } wimpleclay_map_answer;
 
 /* The root map of the classes in the two lists: residue r is the bit of weight 2^(r % 8) in byte r / 8, 1 for a
-   member. Every byte of the map is written, whatever it held; spare high bits of the last byte are 0. Rules 4, 5, 6,
-   7, 9 and 10. */
+   member. Every byte of the map is written, whatever it held; spare high bits of the last byte are 0. Rules 4, 14,
+   5, 6, 7, 9 and 10. */
 wimpleclay_map_answer wimpleclay_fill_map(uint32_t p, uint32_t n, const uint32_t *residues, size_t residues_length,
                                           const uint8_t *levels, size_t levels_length, uint8_t *map,
                                           size_t map_length);
@@ -136,7 +138,7 @@ typedef struct {
     uint64_t ones; /* the ones among the first p^n bits */
 } wimpleclay_count_answer;
 
-/* The number of ones among the first p^n bits of a map; spare bits are ignored. Rules 4, 5, 9 and 10. */
+/* The number of ones among the first p^n bits of a map; spare bits are ignored. Rules 4, 14, 5, 9 and 10. */
 wimpleclay_count_answer wimpleclay_count_map(uint32_t p, uint32_t n, const uint8_t *map, size_t map_length);
 
 /* Texts ************************************************************************************************************/
@@ -168,7 +170,7 @@ typedef struct {
 
 /* The text of a list of classes: a line of p, n, the number of classes and the number of roots, then a line a class
    of residue, level, number of members and mark; all columns are 11 wide. It is WIMPLECLAY_TEXT_BYTES(k) bytes, with
-   no 0 at its end; later bytes of the lent text keep their content. Rules 4, 5, 6, 7 and 12 (place: the bytes
+   no 0 at its end; later bytes of the lent text keep their content. Rules 4, 14, 5, 6, 7 and 12 (place: the bytes
    needed). */
 wimpleclay_write_answer wimpleclay_write_classes(uint32_t p, uint32_t n, const uint32_t *residues,
                                                  size_t residues_length, const uint8_t *levels, size_t levels_length,

@@ -37,8 +37,9 @@ static const solving solvings[] = {
     {"no coefficient", {0}, 0, 4, 0, {1, 2, 3}, {2, 0, 0, 0}, {0}, {0}, {0}},
     {"p is 0", {1}, 1, 0, 1, {1, 1, 1}, {4, 0, 0, 0}, {0}, {0}, {0}},
     {"p is 1", {1}, 1, 1, 1, {1, 1, 1}, {4, 0, 0, 0}, {0}, {0}, {0}},
-    {"p is 4", {1}, 1, 4, 0, {1, 2, 3}, {4, 0, 0, 0}, {0}, {0}, {0}},
-    {"p is 65535", {1}, 1, 65535, 1, {1, 1, 1}, {4, 0, 0, 0}, {0}, {0}, {0}},
+    {"p is 4", {1}, 1, 4, 0, {1, 2, 3}, {14, 2, 0, 0}, {0}, {0}, {0}},
+    {"p is 9", {1}, 1, 9, UINT32_MAX, {1, 2, 3}, {14, 3, 0, 0}, {0}, {0}, {0}},
+    {"p is 65535", {1}, 1, 65535, 1, {1, 1, 1}, {14, 3, 0, 0}, {0}, {0}, {0}},
     {"p is 65536", {1}, 1, 65536, 1, {1, 1, 1}, {4, 0, 0, 0}, {0}, {0}, {0}},
     {"p is 65537, a prime", {1}, 1, 65537, 1, {1, 1, 1}, {4, 0, 0, 0}, {0}, {0}, {0}},
     {"n is 0", {1}, 1, 2, 0, {1, 2, 3}, {5, 0, 0, 0}, {0}, {0}, {0}},
@@ -75,7 +76,7 @@ static void test_coefficients(void)
     expect(wimpleclay_is_root(f, 65, 2, 1, 1).root == 1, "is_root: 65 coefficients");
     expect(wimpleclay_is_root(f, 66, 4, 0, 9).number == 3, "is_root: 66 coefficients");
     expect(wimpleclay_is_root(f, 0, 4, 0, 9).number == 2, "is_root: no coefficient");
-    expect(wimpleclay_is_root(f, 1, 4, 0, 9).number == 4, "is_root: p is 4");
+    expect(wimpleclay_is_root(f, 1, 4, 0, 9).number == WIMPLECLAY_COMPOSITE, "is_root: p is 4");
     expect(wimpleclay_is_root(f, 1, 2, 0, 9).number == 5, "is_root: n is 0");
     expect(wimpleclay_is_root(f, 1, 2, 3, 8).number == 8, "is_root: point 8 modulo 8");
     expect(wimpleclay_is_root(f, 1, 65521, 2, UINT32_MAX).number == 8, "is_root: the largest point");
@@ -100,7 +101,7 @@ static const stepping steppings[] = {
     {"7/2, 18/2 from 19", 5, 2, {2, 2}, {7, 18}, {2, 2}, 19, {0, 0, 0, 0}},
     {"no class", 5, 2, {0, 0}, {0}, {0}, 3, {0, 0, 0, 0}},
     {"everything", 65521, 2, {1, 1}, {0}, {0}, UINT32_C(4293001440), {0, 0, 1, UINT32_C(4293001440)}},
-    {"p is 9", 9, 0, {1, 2}, {5}, {9}, 99, {4, 0, 0, 0}},
+    {"p is 9", 9, 0, {1, 2}, {5}, {9}, 99, {14, 3, 0, 0}},
     {"n is 0", 3, 0, {1, 2}, {5}, {9}, 99, {5, 0, 0, 0}},
     {"lists of other lengths", 3, 2, {3, 2}, {5, 5, 5}, {9, 9, 9}, 99, {6, 2, 0, 0}},
     {"a level above n", 3, 2, {3, 3}, {0, 1, 2}, {1, 3, 1}, 99, {7, 1, 0, 0}},
@@ -133,12 +134,12 @@ static void test_maps(void)
     expect(wimpleclay_fill_map(2, 19, r, 0, t, 0, map, 65537).number == 10, "a map of 2^19, a byte too long");
     expect(wimpleclay_fill_map(2, 20, r, 0, t, 0, map, 0).number == 9, "a map of 2^20");
     expect(wimpleclay_fill_map(3, 12, r, 0, t, 0, map, 0).number == 9, "a map of 3^12");
-    expect(wimpleclay_fill_map(4, 0, r, 1, t, 0, map, 0).number == 4, "fill_map: p is 4");
+    expect(wimpleclay_fill_map(4, 0, r, 1, t, 0, map, 0).place == 2, "fill_map: p is 4");
     expect(wimpleclay_fill_map(2, 0, r, 1, t, 0, map, 0).number == 5, "fill_map: n is 0");
     map[65535] = 128;
     expect(wimpleclay_count_map(2, 19, map, 65536).ones == 1, "count of a map of 2^19");
     expect(wimpleclay_count_map(2, 20, map, 0).number == 9, "count of a map of 2^20");
-    expect(wimpleclay_count_map(4, 0, map, 0).number == 4 && wimpleclay_count_map(2, 32, map, 0).number == 5,
+    expect(wimpleclay_count_map(4, 0, map, 0).number == 14 && wimpleclay_count_map(2, 32, map, 0).number == 5,
            "count_map: p and n");
     expect(wimpleclay_count_map(3, 1, (const uint8_t[]){0xf9}, 1).ones == 1, "spare bits are not counted");
 }

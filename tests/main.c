@@ -5,6 +5,7 @@
 int main(void)
 {
     test_fixed_cases();
+    test_moduli();
     test_solving();
     test_lists();
     test_texts();

@@ -14,14 +14,14 @@ uint64_t power(uint32_t p, uint32_t n)
     return m;
 }
 
-uint32_t refused_modulus(uint32_t p, uint32_t n)
+refusal refused_modulus(uint32_t p, uint32_t n)
 {
     if (p < 2 || p > 65535)
-        return 4;
+        return (refusal){4, 0};
     for (uint32_t d = 2; d < p; d++)
         if (p % d == 0)
-            return 4;
-    return n == 0 || power(p, n) == 0 ? 5 : 0;
+            return (refusal){14, d};
+    return (refusal){n == 0 || power(p, n) == 0 ? 5 : 0, 0};
 }
 
 /* x modulo m, from 0 to m - 1 */
@@ -100,7 +100,7 @@ static int faulty(uint32_t p, uint32_t n, const list *l, size_t i)
 
 refusal refused_list(uint32_t p, uint32_t n, const list *l, size_t residues, size_t levels, const size_t *marks)
 {
-    refusal none = {0, 0}, modulus = {refused_modulus(p, n), 0};
+    refusal none = {0, 0}, modulus = refused_modulus(p, n);
     size_t third = marks ? *marks : residues;
     if (modulus.number)
         return modulus;

@@ -26,13 +26,13 @@ typedef struct {
 /* p to the power n, or 0 where that exceeds 4294967295. */
 uint64_t power(uint32_t p, uint32_t n);
 
-/* Rules 4 and 5. */
-uint32_t refused_modulus(uint32_t p, uint32_t n);
+/* Rules 4, 14 and 5. */
+refusal refused_modulus(uint32_t p, uint32_t n);
 
 /* The root classes of f: the whole classes that lie in no larger whole class, rising by residue. */
 void solve_by_trial(const int64_t *f, size_t count, uint32_t p, uint32_t n, list *s);
 
-/* Rules 4, 5, 6 and 7 for a list whose two or (marks not null) three parts have these lengths. */
+/* Rules 4, 14, 5, 6 and 7 for a list whose two or (marks not null) three parts have these lengths. */
 refusal refused_list(uint32_t p, uint32_t n, const list *l, size_t residues, size_t levels, const size_t *marks);
 
 /* Sets the members of an accepted list. */

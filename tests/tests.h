@@ -2,6 +2,7 @@
 #ifndef TESTS_H
 #define TESTS_H
 
+void test_moduli(void);
 void test_solving(void);
 void test_lists(void);
 void test_texts(void);

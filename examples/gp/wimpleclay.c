@@ -18,6 +18,8 @@ GEN gp_wimpleclay(GEN row, long p, long n)
     wimpleclay_solve_answer a =
         wimpleclay_solve(coefficients, (size_t)count, (uint32_t)p, (uint32_t)n, residues, WIMPLECLAY_MAX_CLASSES,
                          levels, WIMPLECLAY_MAX_CLASSES, marks, WIMPLECLAY_MAX_CLASSES);
+    if (a.number == WIMPLECLAY_COMPOSITE)
+        pari_err(e_MISC, "wimpleclay: refused by rule 14: p is composite, least divisor %lu", (ulong)a.place);
     if (a.number)
         pari_err(e_MISC, "wimpleclay: refused by rule %lu, place %lu", (ulong)a.number, (ulong)a.place);
     GEN classes = cgetg((long)a.classes + 1, t_VEC);

@@ -19,10 +19,14 @@ Roots from a point on come one at a time, so a polynomial may have many:
 
 A refusal is an exception with the number of the rule and the place:
 
->>> roots([-1, 0, 1], 4, 2)
+>>> roots([-1, 0, 1], 2, 32)
 Traceback (most recent call last):
     ...
-wimpleclay.Refused: rule 4, place 0
+wimpleclay.Refused: rule 5, place 0
+>>> roots([-1, 0, 1], 91, 2)
+Traceback (most recent call last):
+    ...
+wimpleclay.Refused: rule 14: p is composite, least divisor 7
 
 The library is found as libwimpleclay.so on the loader's path, or where WIMPLECLAY_LIBRARY says.
 """
@@ -34,6 +38,7 @@ from ctypes import POINTER, c_int64, c_size_t, c_uint8, c_uint32, c_uint64
 from typing import NamedTuple
 
 MAX_CLASSES = 64
+COMPOSITE = 14
 
 _library = ctypes.CDLL(os.environ.get("WIMPLECLAY_LIBRARY", "libwimpleclay.so"))
 
@@ -42,7 +47,8 @@ class Refused(ValueError):
     """A call that the library refused: the number of the rule, and the place."""
 
     def __init__(self, number, place):
-        super().__init__(f"rule {number}, place {place}")
+        where = f": p is composite, least divisor {place}" if number == COMPOSITE else f", place {place}"
+        super().__init__(f"rule {number}{where}")
         self.number = number
         self.place = place
 

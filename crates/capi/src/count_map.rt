@@ -28,7 +28,7 @@ fn count_answer(counted: Counted) -> CountAnswer
     }
 }
 
-// `rootmap::count_map`. Rules 4, 5, 9 and 10.
+// `rootmap::count_map`. Rules 4, 14, 5, 9 and 10.
 #[no_mangle]
 pub extern "C" fn wimpleclay_count_map(p: u32, n: u32, map: &[u8]) -> CountAnswer
     ensures { λ r. ⌜ r ≡ countAnswer (countedOf p n (now (map .entry))) ⌝ }

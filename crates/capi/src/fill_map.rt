@@ -26,7 +26,7 @@ fn map_answer(mapped: Mapped) -> MapAnswer
     }
 }
 
-// `rootmap::fill_map`. Rules 4, 5, 6, 7, 9 and 10; a refusal alters nothing.
+// `rootmap::fill_map`. Rules 4, 14, 5, 6, 7, 9 and 10; a refusal alters nothing.
 #[no_mangle]
 pub extern "C" fn wimpleclay_fill_map(
     p: u32,

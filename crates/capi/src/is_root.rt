@@ -34,7 +34,7 @@ fn test_answer(tested: Tested) -> TestAnswer
     }
 }
 
-// `solver::is_root`. Rules 2, 3, 4, 5 and 8.
+// `solver::is_root`. Rules 2, 3, 4, 14, 5 and 8.
 #[no_mangle]
 pub extern "C" fn wimpleclay_is_root(coefficients: &[i64], p: u32, n: u32, point: u32) -> TestAnswer
     ensures { λ r. ⌜ r ≡ testAnswer (testedOf (now (coefficients .entry)) p n point) ⌝ }

@@ -38,7 +38,7 @@ fn next_answer(next: Next) -> NextAnswer
     }
 }
 
-// `classes::next_root`. Rules 4, 5, 6, 7 and 8.
+// `classes::next_root`. Rules 4, 14, 5, 6, 7 and 8.
 #[no_mangle]
 pub extern "C" fn wimpleclay_next_root(
     p: u32,

@@ -31,7 +31,7 @@ fn solve_answer(solved: Solved) -> SolveAnswer
     }
 }
 
-// `solver::solve`. Rules 2, 3, 4, 5, 6 and 11; a refusal alters nothing.
+// `solver::solve`. Rules 2, 3, 4, 14, 5, 6 and 11; a refusal alters nothing.
 #[no_mangle]
 pub extern "C" fn wimpleclay_solve(
     coefficients: &[i64],

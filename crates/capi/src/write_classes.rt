@@ -32,7 +32,7 @@ fn write_answer(written: Written) -> WriteAnswer
     }
 }
 
-// `writer::write_classes`. Rules 4, 5, 6, 7 and 12; a refusal alters nothing.
+// `writer::write_classes`. Rules 4, 14, 5, 6, 7 and 12; a refusal alters nothing.
 #[no_mangle]
 pub extern "C" fn wimpleclay_write_classes(
     p: u32,

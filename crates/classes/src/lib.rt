@@ -11,7 +11,7 @@ mod next;
 pub use next::Next;
 pub use next::next_root;
 
-// Whether p, n and a list of classes are usable: pⁿ, or the refusal. Rules 4, 5, 6 and 7.
+// Whether p, n and a list of classes are usable: pⁿ, or the refusal. Rules 4, 14, 5, 6 and 7.
 pub fn check_list(p: u32, n: u32, residues: &[u32], levels: &[u8]) -> Modulus
     ensures { λ r. ⌜ r ≡ checkedOf p n (now (residues .entry)) (now (levels .entry)) ⌝ }
 {

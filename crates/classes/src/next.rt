@@ -18,7 +18,7 @@ pub enum Next {
     Refused(Refusal),
 }
 
-// The least member at or after the point of the classes that the lists hold, or none. Rules 4, 5, 6, 7 and 8.
+// The least member at or after the point of the classes that the lists hold, or none. Rules 4, 14, 5, 6, 7 and 8.
 pub fn next_root(p: u32, n: u32, residues: &[u32], levels: &[u8], point: u32) -> Next
     ensures { λ r. ⌜ r ≡ nextOf p n (now (residues .entry)) (now (levels .entry)) point ⌝ }
 {

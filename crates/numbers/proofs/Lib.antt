@@ -1,3 +1,4 @@
 -- Laws of the numbers that several crates need.
 pub mod Saturated
 pub mod Rules
+pub mod Composite

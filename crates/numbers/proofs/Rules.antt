@@ -1,41 +1,51 @@
 -- The rules on p and n: what an accepted pair has, and how these rules lead a longer list.
 use mathlib.Core.Path.{_≡_, refl, ap, ap₂, sym}
-use mathlib.Core.Bool.{Bool, true, false, not, _||_}
+use mathlib.Core.Bool.{Bool, true, false, _||_}
 use mathlib.Core.List.{List, [], _∷_, _++_}
-use Prim.Native.Nat.{ℕ, _^_, _<_}
+use Prim.Native.Nat.{ℕ, _^_, _≤_, _<_}
 use native.Mathlib.Omega.{arith}
-use borrow.Author.Tests.{ltb-false, eqb-false, not-false}
+use borrow.Author.Tests.{ltb-false, eqb-false}
 use lib.Dec.{eqb, ltb}
-use Rattle.theory.specs.Prime.{isPrime}
+use Rattle.theory.specs.Prime.{isComposite, leastDivisor}
 use Rattle.theory.proofs.Tests.{or-fails-left, or-fails-right}
-use Rattle.theory.proofs.Numbers.Prime.{prime-of}
+use Rattle.theory.proofs.Numbers.Prime.{not-composite-prime}
 use Rattle.refusal.specs.declared.Refusal.{Refusal}
-use Rattle.refusal.specs.declared.Refusal.the-variants.{NotPrime, Precision}
+use Rattle.refusal.specs.declared.Refusal.the-variants.{PrimeOutOfRange, Composite, Precision}
 use Rattle.refusal.specs.Rules.{Verdict, passes, refuses, tried}
 use Rattle.refusal.proofs.Rules.{tried-leads, tried-refuses, tried-first, rule-passes}
 use Rattle.numbers.specs.declared.Modulus.the-variants.{Accepted, Refused}
-use Rattle.numbers.specs.Modulus.{rule4, rule5, modulusRules, powerOr, modulusOf}
+use Rattle.numbers.specs.Modulus.{rule4, rule14, rule5, modulusRules, powerOr, modulusOf}
 use Rattle.numbers.specs.inner.Usable.{Usable}
 
 -- The tests of the rules
 
-abbrev pub notPrime : ℕ → Bool
-notPrime p = ltb p 2 || ltb 65535 p || not (isPrime p)
+abbrev pub outOfRange : ℕ → Bool
+outOfRange p = ltb p 2 || ltb 65535 p
 
 abbrev pub notPrecise : ℕ → ℕ → Bool
 notPrecise p n = eqb n 0 || ltb 4294967295 (p ^ n)
 
-pub modulus-4 : (p n : ℕ) → notPrime p ≡ true → modulusOf p n ≡ Refused NotPrime
-unfolding modulusOf
-modulus-4 p n e = rw e
+pub in-range-two : (p : ℕ) → outOfRange p ≡ false → 2 ≤ p
+in-range-two p e = ltb-false p 2 (or-fails-left (ltb p 2) (ltb 65535 p) e)
 
-pub modulus-5 : (p n : ℕ) → notPrime p ≡ false → notPrecise p n ≡ true → modulusOf p n ≡ Refused Precision
-unfolding modulusOf
-modulus-5 p n e f = rw (e, f)
+-- The answer for each of them
 
-pub modulus-passes : (p n : ℕ) → notPrime p ≡ false → notPrecise p n ≡ false → modulusOf p n ≡ Accepted (p ^ n)
-unfolding modulusOf
-modulus-passes p n e f = rw (e, f)
+module _ (p n : ℕ) where
+  pub modulus-4 : outOfRange p ≡ true → modulusOf p n ≡ Refused PrimeOutOfRange
+  unfolding modulusOf
+  modulus-4 e = rw e
+
+  pub modulus-14 : outOfRange p ≡ false → isComposite p ≡ true → modulusOf p n ≡ Refused (Composite (leastDivisor p))
+  unfolding modulusOf
+  modulus-14 e f = rw (e, f)
+
+  pub modulus-5 : outOfRange p ≡ false → isComposite p ≡ false → notPrecise p n ≡ true → modulusOf p n ≡ Refused Precision
+  unfolding modulusOf
+  modulus-5 e f g = rw (e, f, g)
+
+  pub modulus-passes : outOfRange p ≡ false → isComposite p ≡ false → notPrecise p n ≡ false → modulusOf p n ≡ Accepted (p ^ n)
+  unfolding modulusOf
+  modulus-passes e f g = rw (e, f, g)
 
 -- What an answer says of the rules
 
@@ -52,14 +62,15 @@ module _ (p n : ℕ) where
   pub passes-usable : tried (modulusRules p n) ≡ passes → (m : ℕ) → m ≡ p ^ n → Usable p n m
   unfolding modulusRules
   passes-usable e m q =
-      let parts = tried-first (rule4 p) (rule5 p n ∷ []) e in
-      let four = rule-passes (notPrime p) NotPrime (parts .0) in
-      let five = rule-passes (notPrecise p n) Precision (tried-first (rule5 p n) [] (parts .1) .0) in
-      let range : (ltb p 2 || ltb 65535 p) ≡ false = or-fails-left (ltb p 2 || ltb 65535 p) (not (isPrime p)) four in
+      let (in-range, after-4) = tried-first (rule4 p) (rule14 p ∷ rule5 p n ∷ []) e in
+      let (not-composite, after-14) = tried-first (rule14 p) (rule5 p n ∷ []) after-4 in
+      let four = rule-passes (outOfRange p) PrimeOutOfRange in-range in
+      let fourteen = rule-passes (isComposite p) (Composite (leastDivisor p)) not-composite in
+      let five = rule-passes (notPrecise p n) Precision (tried-first (rule5 p n) [] after-14 .0) in
       record {
         accepted = e;
-        prime = prime-of p (not-false (isPrime p) (or-fails-right (ltb p 2 || ltb 65535 p) (not (isPrime p)) four));
-        small = ltb-false 65535 p (or-fails-right (ltb p 2) (ltb 65535 p) range);
+        prime = not-composite-prime p (in-range-two p four) fourteen;
+        small = ltb-false 65535 p (or-fails-right (ltb p 2) (ltb 65535 p) four);
         precise = positive (eqb-false n 0 (or-fails-left (eqb n 0) (ltb 4294967295 (p ^ n)) five));
         power = q;
         within = ltb-false 4294967295 (p ^ n) (or-fails-right (eqb n 0) (ltb 4294967295 (p ^ n)) five);

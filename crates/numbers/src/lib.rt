@@ -85,18 +85,16 @@ pub enum Modulus {
     Refused(Refusal),
 }
 
-// Rules 4 and 5.
+// Rules 4, 14 and 5.
 pub fn check_modulus(p: u32, n: u32) -> Modulus
     ensures { λ r. ⌜ r ≡ modulusOf p n ⌝ }
 {
-    if p < 2 {
-        return Modulus::Refused(Refusal::NotPrime);
+    if p < 2 || 65535 < p {
+        return Modulus::Refused(Refusal::PrimeOutOfRange);
     }
-    if 65535 < p {
-        return Modulus::Refused(Refusal::NotPrime);
-    }
-    if least_divisor(p) != p {
-        return Modulus::Refused(Refusal::NotPrime);
+    let divisor = least_divisor(p) as usize;
+    if divisor != p as usize {
+        return Modulus::Refused(Refusal::Composite(divisor));
     }
     let modulus = power(p, n);
     if n == 0 || 4294967295 < modulus {

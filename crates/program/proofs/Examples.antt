@@ -3,11 +3,11 @@ use mathlib.Core.Path.{_≡_, refl}
 use mathlib.Core.List.{List, [], _∷_, _++_}
 use Prim.Native.Nat.{ℕ}
 use lib.ListN.{replicate}
-use Rattle.theory.specs.Prime.{isPrime}
+use Rattle.theory.specs.Prime.{isComposite}
 use Rattle.theory.specs.Polynomial.{roots}
 use Rattle.theory.specs.Shortest.{shortest}
 use Rattle.theory.specs.Mark.{mark}
-use Rattle.numbers.specs.Modulus.{rule4, rule5}
+use Rattle.numbers.specs.Modulus.{rule4, rule14, rule5}
 use Rattle.solver.specs.Solve.{solution}
 use Rattle.text.specs.Form.{problemOf}
 use Rattle.writer.specs.Output.{outputText}
@@ -37,5 +37,5 @@ printed-output =
 
 -- "The program reads the first block on standard input and prints the second"
 pub printed-example : printedText printed-input ≡ printed-output
-unfolding printedText problemOf rule4 rule5 isPrime solution shortest roots mark outputText
+unfolding printedText problemOf rule4 rule14 rule5 isComposite solution shortest roots mark outputText
 printed-example = refl

@@ -1,14 +1,15 @@
--- 01's number and place for each refusal: "A refusal returns its number and a place, 0 unless said".
+-- The number and place that 01 and 02 give each refusal: "A refusal returns its number and a place, 0 unless said".
 use Prim.Native.Nat.{ℕ}
 use Rattle.refusal.specs.declared.Refusal.{Refusal}
-use Rattle.refusal.specs.declared.Refusal.the-variants.{Form, NoCoefficient, TooManyCoefficients, NotPrime, Precision, Lengths}
-use Rattle.refusal.specs.declared.Refusal.the-variants.{Entry, Point, MapTooLarge, MapLength, TooFewSlots, BufferTooSmall}
+use Rattle.refusal.specs.declared.Refusal.the-variants.{Form, NoCoefficient, TooManyCoefficients, PrimeOutOfRange, Composite}
+use Rattle.refusal.specs.declared.Refusal.the-variants.{Precision, Lengths, Entry, Point, MapTooLarge, MapLength, TooFewSlots, BufferTooSmall}
 
 abbrev pub numberOf : Refusal → ℕ
 numberOf (Form place) = 1
 numberOf NoCoefficient = 2
 numberOf TooManyCoefficients = 3
-numberOf NotPrime = 4
+numberOf PrimeOutOfRange = 4
+numberOf (Composite divisor) = 14
 numberOf Precision = 5
 numberOf (Lengths place) = 6
 numberOf (Entry place) = 7
@@ -22,7 +23,8 @@ abbrev pub placeOf : Refusal → ℕ
 placeOf (Form place) = place
 placeOf NoCoefficient = 0
 placeOf TooManyCoefficients = 0
-placeOf NotPrime = 0
+placeOf PrimeOutOfRange = 0
+placeOf (Composite divisor) = divisor
 placeOf Precision = 0
 placeOf (Lengths place) = place
 placeOf (Entry place) = place

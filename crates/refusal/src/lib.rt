@@ -1,4 +1,4 @@
-// The refusals: a case for each of 01's rules, with its place where it has one.
+// The refusals: a case for each rule of 01 and 02 in the order in which they are tried, with its place where it has one.
 ghost use mathlib.Core.Path.{_≡_};
 ghost use Rattle.refusal.specs.Number.{numberOf, placeOf};
 
@@ -9,8 +9,10 @@ pub enum Refusal {
     NoCoefficient,
     // 3: there are more than 65 coefficients
     TooManyCoefficients,
-    // 4: p is below 2, above 65,535 or not prime
-    NotPrime,
+    // 4: p is below 2 or above 65,535
+    PrimeOutOfRange,
+    // 14: p is composite; its least divisor above 1
+    Composite(usize),
     // 5: n is 0, or pⁿ exceeds 4,294,967,295
     Precision,
     // 6: the lists differ in length; the shortest length
@@ -30,7 +32,7 @@ pub enum Refusal {
 }
 
 impl Refusal {
-    // 01's number of the rule.
+    // The rule's number.
     pub fn number(self) -> u32
         ensures { λ r. ⌜ r ≡ numberOf self ⌝ }
     {
@@ -38,7 +40,8 @@ impl Refusal {
             Refusal::Form(_) => 1,
             Refusal::NoCoefficient => 2,
             Refusal::TooManyCoefficients => 3,
-            Refusal::NotPrime => 4,
+            Refusal::PrimeOutOfRange => 4,
+            Refusal::Composite(_) => 14,
             Refusal::Precision => 5,
             Refusal::Lengths(_) => 6,
             Refusal::Entry(_) => 7,
@@ -58,7 +61,8 @@ impl Refusal {
             Refusal::Form(place) => place,
             Refusal::NoCoefficient => 0,
             Refusal::TooManyCoefficients => 0,
-            Refusal::NotPrime => 0,
+            Refusal::PrimeOutOfRange => 0,
+            Refusal::Composite(place) => place,
             Refusal::Precision => 0,
             Refusal::Lengths(place) => place,
             Refusal::Entry(place) => place,

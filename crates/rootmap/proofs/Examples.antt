@@ -2,7 +2,7 @@
 use mathlib.Core.Path.{_≡_, refl}
 use mathlib.Core.List.{[], _∷_}
 use Prim.Native.Nat.{ℕ}
-use Rattle.theory.specs.Prime.{isPrime}
+use Rattle.theory.specs.Prime.{isComposite}
 use Rattle.theory.specs.Examples.{firstMap}
 use Rattle.refusal.specs.declared.Refusal.the-variants.{MapTooLarge}
 use Rattle.rootmap.specs.declared.Mapped.the-variants.{Filled, Refused}
@@ -11,18 +11,18 @@ use Rattle.rootmap.specs.Map.{mappedOf, mapFilled, countedOf}
 
 -- "Its map is the bytes 130, 130", whatever the map held, and it has four ones
 pub first-map : (x y : ℕ) → mapFilled 2 4 (1 ∷ 7 ∷ []) (3 ∷ 3 ∷ []) (x ∷ y ∷ []) ≡ firstMap
-unfolding isPrime mapFilled
+unfolding isComposite mapFilled
 first-map x y = refl
 
 pub first-count : countedOf 2 4 firstMap ≡ Ones 4
-unfolding isPrime countedOf
+unfolding isComposite countedOf
 first-count = refl
 
 -- "Maps: 2^19 passes with 65,536 bytes; 3^12 = 531,441 is refused 9."
 pub largest-map : mappedOf 2 19 [] [] 65536 ≡ Filled
-unfolding isPrime mappedOf
+unfolding isComposite mappedOf
 largest-map = refl
 
 pub larger-map : (bytes : ℕ) → mappedOf 3 12 [] [] bytes ≡ Refused MapTooLarge
-unfolding isPrime mappedOf
+unfolding isComposite mappedOf
 larger-map bytes = refl

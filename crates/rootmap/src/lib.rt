@@ -23,7 +23,7 @@ pub enum Counted {
 }
 
 // The root map of a list of classes: bit r of the map is 1 exactly if the residue r is a member of a class. Every byte of the map is
-// written, whatever it held. Rules 4, 5, 6, 7, 9 and 10; a refusal alters nothing.
+// written, whatever it held. Rules 4, 14, 5, 6, 7, 9 and 10; a refusal alters nothing.
 pub fn fill_map(p: u32, n: u32, residues: &[u32], levels: &[u8], map: &mut [u8]) -> Mapped
     ensures answer { λ r. ⌜ r ≡ mappedOf p n (now (residues .entry)) (now (levels .entry)) (length (now (map .entry))) ⌝ }
     ensures map { λ _. ⌜ now (map .exit) ≡ mapFilled p n (now (residues .entry)) (now (levels .entry)) (now (map .entry)) ⌝ }
@@ -38,7 +38,7 @@ pub fn fill_map(p: u32, n: u32, residues: &[u32], levels: &[u8], map: &mut [u8])
     }
 }
 
-// The number of ones among the first pⁿ bits of a map; spare bits are ignored. Rules 4, 5, 9 and 10.
+// The number of ones among the first pⁿ bits of a map; spare bits are ignored. Rules 4, 14, 5, 9 and 10.
 pub fn count_map(p: u32, n: u32, map: &[u8]) -> Counted
     ensures { λ r. ⌜ r ≡ countedOf p n (now (map .entry)) ⌝ }
 {

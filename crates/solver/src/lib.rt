@@ -17,7 +17,7 @@ mod taylor;
 mod tree;
 mod valuation;
 
-// Rules 2, 3, 4 and 5: pⁿ, or the refusal.
+// Rules 2, 3, 4, 14 and 5: pⁿ, or the refusal.
 fn check_polynomial(coefficients: &[i64], p: u32, n: u32) -> Modulus
     ensures { λ r. ⌜ r ≡ polynomialModulus (now (coefficients .entry)) p n ⌝ }
 {
@@ -37,7 +37,8 @@ pub enum Solved {
 }
 
 // The root classes of the polynomial with these coefficients, lowest degree first, modulo pⁿ: residues, levels and marks of the shortest
-// list go into the first slots of the three lists; later slots keep their content. Rules 2, 3, 4, 5, 6 and 11; a refusal alters nothing.
+// list go into the first slots of the three lists; later slots keep their content. Rules 2, 3, 4, 14, 5, 6 and 11; a refusal alters
+// nothing.
 pub fn solve(
     coefficients: &[i64],
     p: u32,
@@ -67,7 +68,7 @@ pub enum Tested {
     Refused(Refusal),
 }
 
-// Whether pⁿ divides the polynomial's value at the point. Rules 2, 3, 4, 5 and 8.
+// Whether pⁿ divides the polynomial's value at the point. Rules 2, 3, 4, 14, 5 and 8.
 pub fn is_root(coefficients: &[i64], p: u32, n: u32, point: u32) -> Tested
     ensures { λ r. ⌜ r ≡ testedOf (now (coefficients .entry)) p n point ⌝ }
 {

@@ -70,6 +70,10 @@ pub or-assoc : (a b c : Bool) → ((a || b) || c) ≡ (a || (b || c))
 or-assoc true b c = refl
 or-assoc false b c = refl
 
+pub and-on : (a b : Bool) → a ≡ true → (a && b) ≡ b
+and-on true b e = refl
+and-on false b e = absurd (false≢true e)
+
 pub and-none : (b : Bool) → (b && false) ≡ false
 and-none true = refl
 and-none false = refl

@@ -13,7 +13,12 @@ unfoldable pub isPrime : ℕ → Bool
 unfolding allBelow divides
 isPrime p = leb 2 p && allBelow (λ i. not (divides (i + 2) p)) (p - 2)
 
--- the same as a fact, which contracts of inner functions ask for
+-- p is at least 2 and not prime
+unfoldable pub isComposite : ℕ → Bool
+unfolding isPrime
+isComposite p = leb 2 p && not (isPrime p)
+
+-- being prime as a fact, which contracts of inner functions ask for
 pub record Prime (p : ℕ) : Type 0 where
   pub two : 2 ≤ p
   pub only : (d : ℕ) → 2 ≤ d → d < p → ¬ (d ∣ p)
@@ -22,3 +27,9 @@ pub record Prime (p : ℕ) : Type 0 where
 unfoldable pub leastDivisor : ℕ → ℕ
 unfolding least divides
 leastDivisor p = least (λ d. divides d p) (p - 2) 2
+
+-- d is a prime that divides p, and no number between 1 and d does
+pub record LeastPrimeDivisor (d p : ℕ) : Type 0 where
+  pub prime : Prime d
+  pub divisor : d ∣ p
+  pub smallest : (e : ℕ) → 1 < e → e < d → ¬ (e ∣ p)

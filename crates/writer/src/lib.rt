@@ -20,7 +20,7 @@ pub enum Written {
 }
 
 // The output for a list of classes: a line of p, n, the number of classes and the root count, then a line a class of residue, level,
-// number of members and mark; bytes after the last line keep their content. Rules 4, 5, 6, 7 and 12; a refusal alters nothing.
+// number of members and mark; bytes after the last line keep their content. Rules 4, 14, 5, 6, 7 and 12; a refusal alters nothing.
 pub fn write_classes(
     p: u32,
     n: u32,

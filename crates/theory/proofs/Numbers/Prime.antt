@@ -1,17 +1,17 @@
--- Primes, and the least divisor of a number.
-use mathlib.Core.Path.{_≡_, refl, sym, _∙_, subst}
+-- Primes and composite numbers, and the least divisor of a number.
+use mathlib.Core.Path.{_≡_, refl, sym, ap, _∙_, subst}
 use mathlib.Core.Logic.{_⊎_, inl, inr}
 use mathlib.Core.Bool.{Bool, true, false, not}
 use Prim.Native.Nat.{ℕ, zero, suc, _+_, _-_, _*_, _/_, _%_, _≤_, _<_, _∣_}
-use native.Mathlib.Nat.{mod-eq-zero-of-dvd, dvd-of-mod-eq-zero, eq-or-lt-of-le, dvd-refl, dvd-mul-right, div-mul-cancel, zero-mul, one-mul}
+use native.Mathlib.Nat.{mod-eq-zero-of-dvd, dvd-of-mod-eq-zero, eq-or-lt-of-le, dvd-refl, dvd-trans, dvd-mul-right, div-mul-cancel, zero-mul, one-mul}
 use native.Mathlib.Nat.{mul-le-mul}
 use native.Mathlib.Decide.{decLe}
 use native.Mathlib.Omega.{arith}
-use borrow.Author.Tests.{eqb-true, eq-eqb, ne-eqb, leb-true, le-leb, not-true}
+use borrow.Author.Tests.{eqb-true, eq-eqb, ne-eqb, leb-true, le-leb, not-true, not-false}
 use lib.Dec.{leb}
 use Rattle.theory.specs.Range.{allBelow}
-use Rattle.theory.specs.Prime.{Prime, divides, isPrime, leastDivisor}
-use Rattle.theory.proofs.Tests.{contradiction, and-left, and-right, and-intro}
+use Rattle.theory.specs.Prime.{Prime, divides, isPrime, isComposite, leastDivisor, LeastPrimeDivisor}
+use Rattle.theory.proofs.Tests.{contradiction, and-left, and-right, and-intro, and-on, not-holding}
 use Rattle.theory.proofs.Range.{all-elim, all-intro, least-found, least-range, before-least}
 
 pub divides-dvd : (d x : ℕ) → divides d x ≡ true → d ∣ x
@@ -93,6 +93,28 @@ module _ (p : ℕ) (two : 2 ≤ p) where
 
   pub least-divisor-prime : leastDivisor p ≡ p → Prime p
   least-divisor-prime e = record { two = two; only = λ d h l. least-divisor-least d h (omega arith) }
+
+  -- it is a prime
+  pub least-prime-divisor : LeastPrimeDivisor (leastDivisor p) p
+  least-prime-divisor = record {
+    prime = record { two = least-divisor-range .0; only = λ d h l v. least-divisor-least d h l (dvd-trans d v least-divisor-divides) };
+    divisor = least-divisor-divides;
+    smallest = λ e h l. least-divisor-least e (omega arith) l;
+  }
+
+  pub composite-is-not-prime : isComposite p ≡ not (isPrime p)
+  unfolding isComposite
+  composite-is-not-prime = and-on (leb 2 p) (not (isPrime p)) (le-leb 2 p two)
+
+  pub not-composite-prime : isComposite p ≡ false → Prime p
+  not-composite-prime e = prime-of p (not-false (isPrime p) (sym composite-is-not-prime ∙ e))
+
+  -- a number is composite exactly if it is not its own least divisor
+  pub composite-on : (leastDivisor p ≡ p → ⊥) → isComposite p ≡ true
+  composite-on ne = composite-is-not-prime ∙ ap not (not-holding (isPrime p) (λ e. ne (prime-least-divisor (prime-of p e))))
+
+  pub composite-off : leastDivisor p ≡ p → isComposite p ≡ false
+  composite-off e = composite-is-not-prime ∙ ap not (of-prime p (least-divisor-prime e))
 
   -- a divisor with none below it is the least
   pub least-divisor-is : (d : ℕ) → 2 ≤ d → d ∣ p → ((e : ℕ) → 2 ≤ e → e < d → ¬ (e ∣ p)) → leastDivisor p ≡ d

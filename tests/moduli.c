@@ -1,0 +1,58 @@
+/* Rules 4, 14 and 5 in every operation that takes p and n, for every p up to 66000, against trial division. */
+#include "check.h"
+#include "reference.h"
+#include "tests.h"
+
+#include <wimpleclay.h>
+
+enum { SLOTS = 3, BYTES = 44 };
+
+/* The operation has the refusal of p and n, or none of these three. */
+static void judge(refusal r, uint32_t number, size_t place, const char *what)
+{
+    if (r.number)
+        expect(number == r.number && place == r.place, what);
+    else
+        expect(number != 4 && number != 14 && number != 5, what);
+}
+
+static void test_pair(uint32_t p, uint32_t n)
+{
+    static const int64_t one[] = {1};
+    refusal r = refused_modulus(p, n);
+    loan residues = lend(NULL, SLOTS * sizeof(uint32_t)), levels = lend(NULL, SLOTS), marks = lend(NULL, SLOTS - 1);
+    loan bytes = lend(NULL, BYTES);
+    wimpleclay_solve_answer solved = wimpleclay_solve(one, 1, p, n, lent(&residues), SLOTS, lent(&levels), SLOTS,
+                                                      lent(&marks), SLOTS - 1);
+    wimpleclay_test_answer tested = wimpleclay_is_root(one, 1, p, n, UINT32_MAX);
+    wimpleclay_next_answer next =
+        wimpleclay_next_root(p, n, lent(&residues), SLOTS, lent(&levels), SLOTS, UINT32_MAX);
+    wimpleclay_map_answer filled =
+        wimpleclay_fill_map(p, n, lent(&residues), SLOTS, lent(&levels), SLOTS - 1, lent(&bytes), BYTES);
+    wimpleclay_count_answer counted = wimpleclay_count_map(p, n, lent(&bytes), BYTES);
+    wimpleclay_write_answer written = wimpleclay_write_classes(p, n, lent(&residues), SLOTS, lent(&levels), SLOTS,
+                                                               lent(&marks), SLOTS - 1, lent(&bytes), BYTES);
+    judge(r, solved.number, solved.place, "solve: p and n");
+    judge(r, tested.number, tested.place, "is_root: p and n");
+    judge(r, next.number, next.place, "next_root: p and n");
+    judge(r, filled.number, filled.place, "fill_map: p and n");
+    judge(r, counted.number, counted.place, "count_map: p and n");
+    judge(r, written.number, written.place, "write_classes: p and n");
+    expect(kept_from(&residues, 0) && kept_from(&levels, 0) && kept_from(&marks, 0) && kept_from(&bytes, 0),
+           "p and n: all memory is kept");
+    end_loan(&residues);
+    end_loan(&levels);
+    end_loan(&marks);
+    end_loan(&bytes);
+}
+
+void test_moduli(void)
+{
+    static const uint32_t precisions[] = {0, 1, 2, 33};
+    for (uint32_t p = 0; p <= 66000; p++)
+        test_pair(p, precisions[draw(4)]);
+    for (uint32_t p = 0; p < 100; p++)
+        for (uint32_t n = 0; n <= 33; n++)
+            test_pair(p, n);
+    test_pair(UINT32_MAX, 1);
+}
