@@ -76,7 +76,7 @@ static void test_coefficients(void)
     expect(wimpleclay_is_root(f, 65, 2, 1, 1).root == 1, "is_root: 65 coefficients");
     expect(wimpleclay_is_root(f, 66, 4, 0, 9).number == 3, "is_root: 66 coefficients");
     expect(wimpleclay_is_root(f, 0, 4, 0, 9).number == 2, "is_root: no coefficient");
-    expect(wimpleclay_is_root(f, 1, 4, 0, 9).number == WIMPLECLAY_COMPOSITE, "is_root: p is 4");
+    expect(wimpleclay_is_root(f, 1, 4, 0, 9).number == 14, "is_root: p is 4");
     expect(wimpleclay_is_root(f, 1, 2, 0, 9).number == 5, "is_root: n is 0");
     expect(wimpleclay_is_root(f, 1, 2, 3, 8).number == 8, "is_root: point 8 modulo 8");
     expect(wimpleclay_is_root(f, 1, 65521, 2, UINT32_MAX).number == 8, "is_root: the largest point");
@@ -134,7 +134,7 @@ static void test_maps(void)
     expect(wimpleclay_fill_map(2, 19, r, 0, t, 0, map, 65537).number == 10, "a map of 2^19, a byte too long");
     expect(wimpleclay_fill_map(2, 20, r, 0, t, 0, map, 0).number == 9, "a map of 2^20");
     expect(wimpleclay_fill_map(3, 12, r, 0, t, 0, map, 0).number == 9, "a map of 3^12");
-    expect(wimpleclay_fill_map(4, 0, r, 1, t, 0, map, 0).place == 2, "fill_map: p is 4");
+    expect(wimpleclay_fill_map(4, 0, r, 1, t, 0, map, 0).number == 14, "fill_map: p is 4");
     expect(wimpleclay_fill_map(2, 0, r, 1, t, 0, map, 0).number == 5, "fill_map: n is 0");
     map[65535] = 128;
     expect(wimpleclay_count_map(2, 19, map, 65536).ones == 1, "count of a map of 2^19");
