@@ -1,8 +1,9 @@
 -- The number and place that 01 and 02 give each refusal: "A refusal returns its number and a place, 0 unless said".
 use Prim.Native.Nat.{ℕ}
 use Rattle.refusal.specs.declared.Refusal.{Refusal}
-use Rattle.refusal.specs.declared.Refusal.the-variants.{Form, NoCoefficient, TooManyCoefficients, PrimeOutOfRange, Composite, Precision}
-use Rattle.refusal.specs.declared.Refusal.the-variants.{Lengths, Entry, Point, MapTooLarge, MapLength, TooFewSlots, BufferTooSmall}
+use Rattle.refusal.specs.declared.Refusal.the-variants.{Form, NoCoefficient, TooManyCoefficients}
+use Rattle.refusal.specs.declared.Refusal.the-variants.{PrimeOutOfRange, Composite, Precision, Lengths, Entry, Point}
+use Rattle.refusal.specs.declared.Refusal.the-variants.{MapTooLarge, MapLength, TooFewSlots, BufferTooSmall}
 
 abbrev pub numberOf : Refusal → ℕ
 numberOf (Form place) = 1
