@@ -48,7 +48,7 @@ enum wimpleclay_number {
     WIMPLECLAY_PRECISION = 5,             /* n is 0, or p^n exceeds 4294967295 */
     WIMPLECLAY_LENGTHS = 6,               /* the lists differ in length; place: the shortest length */
     /* A given list has an entry with level above n, residue not below p^level, residue not above the entry before, a
-       member shared with an earlier entry, or (writer) a mark above 1; place: the first such index. */
+       member shared with an earlier entry, or (writer) a mark above 2; place: the first such index. */
     WIMPLECLAY_ENTRY = 7,
     WIMPLECLAY_POINT = 8,            /* the point is not below p^n */
     WIMPLECLAY_MAP_TOO_LARGE = 9,    /* a map, or its count, is asked for with p^n above 524288 */
@@ -84,10 +84,12 @@ typedef struct {
 } wimpleclay_solve_answer;
 
 /* The root classes of the polynomial modulo p^n. The lent lists must have the same length. The k classes go into the
-   first k slots, rising by residue: its residue, its level, and its mark, which is 1 if p does not divide the
-   derivative at the residue and 0 otherwise. Later slots keep their content. The list is the shortest that there is,
-   the only one of its length, and no residue is a member of two of its classes. Rules 2, 3, 4, 14, 5, 6 and 11 (place:
-   k, so a call with lists of length 0 asks for k). */
+   first k slots, rising by residue: its residue, its level, and its mark. The mark tells of g, which is the polynomial
+   divided by the largest power of p that is common to its coefficients modulo p^n: it is 1 if p divides the derivative
+   of g at none of the class's members, 0 if at all, 2 if at some, and 0 if all coefficients are 0 modulo p^n. Only a
+   class of level 0, which is everything, can have mark 2. Later slots keep their content. The list is the shortest that
+   there is, the only one of its length, and no residue is a member of two of its classes. Rules 2, 3, 4, 14, 5, 6 and
+   11 (place: k, so a call with lists of length 0 asks for k). */
 wimpleclay_solve_answer wimpleclay_solve(const int64_t *coefficients, size_t coefficients_length, uint32_t p,
                                          uint32_t n, uint32_t *residues, size_t residues_length, uint8_t *levels,
                                          size_t levels_length, uint8_t *marks, size_t marks_length);

@@ -39,12 +39,30 @@ static uint64_t value(const int64_t *f, size_t count, uint64_t x, uint64_t m)
     return v;
 }
 
-static uint8_t mark(const int64_t *f, size_t count, uint64_t a, uint32_t p)
+/* p^s: the largest power of p below m that divides every coefficient, and m where all reduce to zero. */
+static uint64_t common_power(const int64_t *f, size_t count, uint32_t p, uint64_t m)
 {
-    uint64_t v = 0;
-    for (size_t i = count; i-- > 1;)
-        v = (v * (a % p) + i % p * residue_of(f[i], p)) % p;
-    return v != 0;
+    uint64_t q = m;
+    for (size_t i = 0; i < count; i++)
+        while (residue_of(f[i], m) % q != 0)
+            q /= p;
+    return q;
+}
+
+/* 1 if p divides the derivative of f / p^s at no member of the class, 0 if at all, 2 if at some; 0 if all coefficients reduce to zero. */
+static uint8_t mark(const int64_t *f, size_t count, uint64_t a, uint64_t step, uint32_t p, uint64_t m)
+{
+    uint64_t q = common_power(f, count, p, m), members = 0, zeros = 0;
+    if (q == m)
+        return 0;
+    for (uint64_t r = a; r < m; r += step) {
+        uint64_t v = 0;
+        for (size_t i = count; i-- > 1;)
+            v = (v * (r % p) + i * (residue_of(f[i], m) / q % p)) % p;
+        zeros += v == 0;
+        members++;
+    }
+    return zeros == 0 ? 1 : zeros == members ? 0 : 2;
 }
 
 /* Whether all members of a/t have the bit set. */
@@ -72,7 +90,7 @@ void solve_by_trial(const int64_t *f, size_t count, uint32_t p, uint32_t n, list
                 continue;
             s->residues[s->k] = (uint32_t)a;
             s->levels[s->k] = (uint8_t)t;
-            s->marks[s->k++] = mark(f, count, a, p);
+            s->marks[s->k++] = mark(f, count, a, step, p, m);
         }
 }
 
@@ -109,7 +127,7 @@ refusal refused_list(uint32_t p, uint32_t n, const list *l, size_t residues, siz
         return (refusal){6, third < least ? third : least};
     }
     for (size_t i = 0; i < residues; i++)
-        if (faulty(p, n, l, i) || (marks && l->marks[i] > 1))
+        if (faulty(p, n, l, i) || (marks && l->marks[i] > 2))
             return (refusal){7, i};
     return none;
 }

@@ -19,7 +19,7 @@ static void draw_list(uint32_t p, uint32_t n)
     for (size_t i = 0; i < l.k; i++) {
         l.residues[i] = (uint32_t)(i + (draw(60) == 0));
         l.levels[i] = (uint8_t)(n + (draw(90) == 0));
-        l.marks[i] = (uint8_t)(draw(90) == 0 ? 2 : draw(2));
+        l.marks[i] = (uint8_t)(draw(90) == 0 ? 3 : draw(3));
     }
 }
 

@@ -72,7 +72,8 @@ int main(int argc, char **argv)
     if (solved.number != WIMPLECLAY_ACCEPTED)
         return refused(solved.number, solved.place);
     printf("%zu classes, %" PRIu64 " roots\n", solved.classes, solved.roots);
+    static const char *const words[] = {"", ", simple", ", some of them simple"};
     for (size_t i = 0; i < solved.classes; i++)
-        printf("%" PRIu32 " modulo %" PRIu32 "^%d%s\n", residues[i], p, levels[i], marks[i] ? ", simple" : "");
+        printf("%" PRIu32 " modulo %" PRIu32 "^%d%s\n", residues[i], p, levels[i], words[marks[i]]);
     return print_roots(p, n, residues, levels, solved.classes);
 }

@@ -11,6 +11,13 @@ The coefficients start with the constant one. x^2 - 1 modulo 2^4:
 >>> is_root([-1, 0, 1], 2, 4, 9)
 True
 
+A class is marked 1 if its members are simple roots, 0 if they are not, 2 if only some are. 3x modulo 3^2, x^3 + x^2 modulo 2:
+
+>>> classes([0, 3], 3, 2)
+[Class(residue=0, level=1, mark=1)]
+>>> classes([0, 0, 1, 1], 2, 1)
+[Class(residue=0, level=0, mark=2)]
+
 Roots from a point on come one at a time, so a polynomial may have many:
 
 >>> stream = iterate([0], 2, 31, start=5)
@@ -54,7 +61,11 @@ class Refused(ValueError):
 
 
 class Class(NamedTuple):
-    """The residues congruent to residue modulo p^level; mark is 1 if p does not divide the derivative there."""
+    """The residues congruent to residue modulo p^level.
+
+    mark is 1 if they are all simple roots, 0 if none is, 2 if only some are. A root r is simple if p does not divide g'(r), where g is
+    the polynomial divided by the largest power of p common to its coefficients modulo p^n; if all these are 0, mark is 0.
+    """
 
     residue: int
     level: int

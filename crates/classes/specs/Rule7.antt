@@ -34,9 +34,9 @@ unfoldable pub sharedEarlier : ℕ → List Class → ℕ → Bool
 unfolding allBelow share
 sharedEarlier p L i = not (allBelow (λ j. not (share p (slot L j) (slot L i))) i)
 
--- "(writer) a mark above 1"
+-- "(writer) a mark above 1", and 02, 2.3: "Rule 7 lets the writer take marks up to 2"
 unfoldable pub markAbove : List ℕ → ℕ → Bool
-markAbove marks i = ltb 1 (getD marks i 0)
+markAbove marks i = ltb 2 (getD marks i 0)
 
 -- entry i has "level above n, residue not below p^t, residue not above the entry before, a member shared with an earlier entry"
 unfoldable pub faultAt : ℕ → ℕ → List Class → ℕ → Bool

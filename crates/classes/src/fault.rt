@@ -95,13 +95,13 @@ pub(crate) fn first_fault(p: u32, n: u32, residues: &[u32], levels: &[u8]) -> us
     i
 }
 
-// The first index with a mark above 1, and the length where there is none.
+// The first index with a mark above 2, and the length where there is none.
 pub(crate) fn first_high_mark(marks: &[u8]) -> usize
     ensures { λ r. ⌜ r ≡ firstHighMark (now (marks .entry)) ⌝ }
 {
     let mut i: usize = 0;
     while i < marks.len() {
-        if 1 < marks[i] {
+        if 2 < marks[i] {
             return i;
         }
         i += 1;

@@ -36,7 +36,7 @@ fn check_entries(p: u32, n: u32, m: u64, residues: &[u32], levels: &[u8]) -> Mod
     Modulus::Accepted(m)
 }
 
-// The same for a list with marks, of which none may be above 1.
+// The same for a list with marks, of which none may be above 2.
 pub fn check_marked_list(p: u32, n: u32, residues: &[u32], levels: &[u8], marks: &[u8]) -> Modulus
     ensures { λ r. ⌜ r ≡ markedCheckedOf p n (now (residues .entry)) (now (levels .entry)) (now (marks .entry)) ⌝ }
 {

@@ -1,6 +1,5 @@
 -- The writer takes the solver's list: of its rules only the one on the buffer's length is left.
 use mathlib.Core.Path.{_≡_, refl, sym, ap, _∙_}
-use mathlib.Core.Bool.{Bool, true, false}
 use mathlib.Core.List.{List, [], _∷_, map}
 use Prim.Native.Nat.{ℕ, zero, suc, min, _≤_}
 use native.Mathlib.Omega.{arith}
@@ -8,9 +7,8 @@ use borrow.Author.Tests.{le-ltb}
 use lib.IntN.{ℤ}
 use lib.ListN.{length, getD, length-map}
 use Rattle.theory.specs.Class.{Class}
-use Rattle.theory.specs.Prime.{divides}
-use Rattle.theory.specs.Polynomial.{reduced, roots, value, derivative}
-use Rattle.theory.specs.Mark.{markOf, mark}
+use Rattle.theory.specs.Polynomial.{roots}
+use Rattle.theory.specs.Mark.{mark}
 use Rattle.refusal.specs.Rules.{rule12}
 use Rattle.numbers.specs.declared.Modulus.the-variants.{Accepted}
 use Rattle.numbers.specs.inner.Usable.{Usable}
@@ -21,31 +19,24 @@ use Rattle.classes.specs.inner.Search.{firstHighMark}
 use Rattle.classes.specs.Checked.{markedCheckedOf}
 use Rattle.classes.proofs.Entries.{classes-of-parts}
 use Rattle.theory.proofs.Least.{least-is}
+use Rattle.theory.proofs.Mark.{mark-most}
+use Rattle.theory.proofs.Numbers.Prime.{prime-pos}
 use Rattle.classes.proofs.MarkedChecks.{marked-accepted, marked-passes}
 use Rattle.classes.proofs.ShortestAccepted.{faultless-first, shortest-faultless}
 use Rattle.writer.specs.Written.{writerVerdict}
 use Rattle.writer.proofs.Checked.{verdict-12}
 
--- a mark is 0 or 1
-mark-small : (f : List ℤ) (p n : ℕ) (c : Class) → mark f p n c ≤ 1
-unfolding mark markOf
-mark-small f p n c = go (divides p (value (derivative (reduced f p n)) (c .residue))) refl
-  where
-    go : (t : Bool) → divides p (value (derivative (reduced f p n)) (c .residue)) ≡ t → mark f p n c ≤ 1
-    go true e = rw (e, markOf) (omega arith)
-    go false e = rw (e, markOf) (omega arith)
-
-marks-small : (h : Class → ℕ) → ((c : Class) → h c ≤ 1) → (L : List Class) (i : ℕ) → getD (map h L) i 0 ≤ 1
+marks-small : (h : Class → ℕ) → ((c : Class) → h c ≤ 2) → (L : List Class) (i : ℕ) → getD (map h L) i 0 ≤ 2
 marks-small h small [] i = omega arith
 marks-small h small (c ∷ L) zero = small c
 marks-small h small (c ∷ L) (suc i) = marks-small h small L i
 
 -- small marks have no first high one
-no-high-mark : (marks : List ℕ) → ((i : ℕ) → getD marks i 0 ≤ 1) → length marks ≡ firstHighMark marks
+no-high-mark : (marks : List ℕ) → ((i : ℕ) → getD marks i 0 ≤ 2) → length marks ≡ firstHighMark marks
 unfolding firstHighMark markAbove
 no-high-mark marks small =
     sym (least-is (markAbove marks) (length marks) 0 (length marks) (omega arith) (omega arith)
-    (λ k low h. le-ltb 1 (getD marks k 0) (small k)) (λ h. absurd (omega arith)))
+    (λ k low h. le-ltb 2 (getD marks k 0) (small k)) (λ h. absurd (omega arith)))
 
 module _ (f : List ℤ) (p n m : ℕ) (U : Usable p n m) where
   abbrev L : List Class
@@ -67,7 +58,7 @@ module _ (f : List ℤ) (p n m : ℕ) (U : Usable p n m) where
 
   pub solution-accepted : markedCheckedOf p n (residuesOf (solution f p n)) (levelsOf (solution f p n)) (marksOf f p n) ≡ Accepted m
   solution-accepted =
-      let high = no-high-mark (marksOf f p n) (marks-small (mark f p n) (mark-small f p n) L) in
+      let high = no-high-mark (marksOf f p n) (marks-small (mark f p n) (λ c. mark-most f p n c (prime-pos (U .prime))) L) in
       marked-passes p n (residuesOf L) (levelsOf L) (marksOf f p n) U (residues-length ∙ sym levels-length)
       (residues-length ∙ sym marks-length) (length L) (length (marksOf f p n)) (min (length L) (length (marksOf f p n))) no-fault high refl
       (omega (arith, residues-length, marks-length))

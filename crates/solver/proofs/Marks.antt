@@ -1,45 +1,108 @@
 -- Marks from the derivative modulo p.
-use mathlib.Core.Path.{_≡_, sym, ap, _∙_}
-use mathlib.Core.Bool.{true, false}
+use mathlib.Core.Path.{_≡_, refl, sym, ap, _∙_, fun-ext}
+use mathlib.Core.Logic.{_⊎_, inl, inr}
+use mathlib.Core.Bool.{Bool, true, false, not}
 use mathlib.Core.List.{List}
-use Prim.Native.Nat.{ℕ, suc, _-_, _%_, _≤_}
-use native.Mathlib.Nat.{dvd-zero}
+use Prim.Native.Nat.{ℕ, suc, _-_, _%_, _≤_, _<_}
+use native.Mathlib.Nat.{dvd-zero, eq-zero-or-pos}
 use native.Mathlib.Omega.{arith}
+use borrow.Author.Tests.{eq-eqb, ne-eqb}
 use lib.Dec.{eqb}
 use lib.ListN.{length, List·getD-eq-default}
+use Rattle.theory.specs.Range.{allBelow}
 use Rattle.theory.specs.Prime.{divides}
 use Rattle.theory.specs.Polynomial.{value, derivative}
+use Rattle.theory.specs.Degree.{allZero, primitive}
 use Rattle.theory.specs.Class.{Class}
-use Rattle.theory.specs.Mark.{markOf}
+use Rattle.theory.specs.Mark.{derivativeVanishes, markBy, markOf}
 use Rattle.theory.specs.inner.Polynomial.{coef}
 use Rattle.theory.proofs.Numbers.Congruence.{cong-mod}
-use Rattle.theory.proofs.Numbers.Prime.{divides-on, divides-off}
+use Rattle.theory.proofs.Numbers.Prime.{divides-on, divides-off, dvd-divides}
+use Rattle.theory.proofs.Polynomials.Arithmetic.{dvd-value}
 use Rattle.theory.proofs.Polynomials.Congruence.{cong-argument, cong-coefficients}
 use Rattle.theory.proofs.Polynomials.Derivative.{coef-derivative}
-use Rattle.solver.specs.inner.Table.{Residues, markFrom}
+use Rattle.theory.proofs.Polynomials.Highest.{all-zero-coef}
+use Rattle.theory.proofs.Classes.Periodic.{Periodic}
+use Rattle.theory.proofs.Mark.{mark-by-told, mark-constant, mark-mixed, mark-deep, mark-top, derivative-periodic, mark-over}
+use Rattle.solver.specs.inner.Table.{Residues, vanishes}
+use Rattle.solver.specs.inner.Marks.{markAt, markOfDigits, markFrom}
 use Rattle.solver.proofs.Tables.{residues-same}
 
--- the value at a modulo p is told by a modulo p
+-- One value, at a modulo p
+
 same-value : (p a : ℕ) (f : List ℕ) → value f (a % p) % p ≡ value f a % p
 same-value p a f = cong-argument f (cong-mod p a) .same
 
-pub mark-zero : (p a : ℕ) (f : List ℕ) → value f (a % p) % p ≡ 0 → 0 ≡ markFrom p f a
-unfolding markFrom
-mark-zero p a f e = rw (divides-on p (value f a) (sym (same-value p a f) ∙ e), markFrom)
+pub mark-zero : (p a : ℕ) (f : List ℕ) → value f (a % p) % p ≡ 0 → 0 ≡ markAt p f a
+unfolding vanishes markBy
+mark-zero p a f e = rw (divides-on p (value f a) (sym (same-value p a f) ∙ e))
 
-pub mark-one : (p a : ℕ) (f : List ℕ) → (value f (a % p) % p ≡ 0 → ⊥) → 1 ≡ markFrom p f a
+pub mark-one : (p a : ℕ) (f : List ℕ) → (value f (a % p) % p ≡ 0 → ⊥) → 1 ≡ markAt p f a
+unfolding vanishes markBy
+mark-one p a f ne = rw (divides-off p (value f a) (λ e. ne (same-value p a f ∙ e)))
+
+-- The p digits
+
+module _ (p : ℕ) (d : List ℕ) (hp : 0 < p) where
+  pub digits-zero : allZero d ≡ true → 0 ≡ markOfDigits p d
+  unfolding vanishes markBy
+  digits-zero z =
+      sym (mark-constant (vanishes p d) p true hp (λ c l.
+      dvd-divides p (value d c) (dvd-value p d c (λ i. rw (all-zero-coef d z i) (dvd-zero p)))))
+
+  pub digits-same : ((c : ℕ) → c < p → markAt p d c ≡ markAt p d 0) → markAt p d 0 ≡ markOfDigits p d
+  digits-same h =
+      sym (mark-constant (vanishes p d) p (vanishes p d 0) hp (λ c l. mark-by-told (vanishes p d c) (vanishes p d 0) (h c l)))
+
+  pub digits-differ : (c : ℕ) → c < p → (markAt p d c ≡ markAt p d 0 → ⊥) → 2 ≡ markOfDigits p d
+  digits-differ c l ne = go (vanishes p d c) (vanishes p d 0) refl refl
+    where
+      go : (a b : Bool) → vanishes p d c ≡ a → vanishes p d 0 ≡ b → 2 ≡ markOfDigits p d
+      go true true e f = absurd (ne (ap (λ (t : Bool). markBy (not t) t) (e ∙ sym f)))
+      go false false e f = absurd (ne (ap (λ (t : Bool). markBy (not t) t) (e ∙ sym f)))
+      go true false e f = sym (mark-mixed (vanishes p d) p c 0 l e hp f)
+      go false true e f = sym (mark-mixed (vanishes p d) p 0 c hp f l e)
+
+-- The mark of a class
+
+pub mark-top-from : (p : ℕ) (d : List ℕ) (c : Class) → c .level ≡ 0 → markOfDigits p d ≡ markFrom p d c
 unfolding markFrom
-mark-one p a f ne = rw (divides-off p (value f a) (λ e. ne (same-value p a f ∙ e)), markFrom)
+mark-top-from p d c e = rw (eq-eqb (c .level) 0 e, markFrom)
+
+pub mark-deep-from : (p : ℕ) (d : List ℕ) (c : Class) → (c .level ≡ 0 → ⊥) → markAt p d (c .residue) ≡ markFrom p d c
+unfolding markFrom
+mark-deep-from p d c ne = rw (ne-eqb (c .level) 0 ne, markFrom)
 
 -- the derivative has no coefficient past its length
-pub derivative-beyond : (f : List ℕ) (i : ℕ) → length f - 1 ≤ i → coef (derivative f) i ≡ 0
+derivative-beyond : (f : List ℕ) (i : ℕ) → length f - 1 ≤ i → coef (derivative f) i ≡ 0
 derivative-beyond f i h = coef-derivative f i ∙ rw (List·getD-eq-default f 0 {n = suc i} (omega arith)) (omega arith)
 
--- the mark of a class from the derivative's residues
-pub mark-is : (p : ℕ) (g d : List ℕ) → length d ≡ length g - 1 → Residues p d (derivative g) → (c : Class)
-    → markFrom p d (c .residue) ≡ markOf g p c
-unfolding markFrom markOf divides
-mark-is p g d n r c =
-    ap (λ (x : ℕ). elim (eqb x 0) [ true ↦ 0 | false ↦ 1 ])
-    (cong-coefficients d (derivative g) (c .residue)
-    (residues-same r (λ i h. rw (derivative-beyond g i (omega arith)) (dvd-zero p))) .same)
+-- it may be taken modulo p
+pub mark-residues : (p : ℕ) (g d : List ℕ) → length d ≡ length g - 1 → Residues p d (derivative g) → (c : Class)
+    → markFrom p d c ≡ markFrom p (derivative g) c
+unfolding markFrom vanishes divides
+mark-residues p g d n r c =
+    let same : vanishes p d ≡ vanishes p (derivative g) =
+    fun-ext (λ x. ap (λ (y : ℕ). eqb y 0) (cong-coefficients d (derivative g) x
+    (residues-same r (λ i h. rw (derivative-beyond g i (omega arith)) (dvd-zero p))) .same)) in
+    ap (λ (S : ℕ → Bool). elim (eqb (c .level) 0) [
+      | true ↦ markBy (allBelow (λ x. not (S x)) p) (allBelow S p)
+      | false ↦ markBy (not (S (c .residue))) (S (c .residue))
+    ]) same
+
+-- and of g = f / p^s it gives the mark over all members
+pub mark-is : (w : List ℕ) (p n : ℕ) → 0 < p → 0 < n → (c : Class) → markFrom p (derivative (primitive p w)) c ≡ markOf w p n c
+unfolding vanishes derivativeVanishes
+mark-is w p n hp hn c = go (eq-zero-or-pos (c .level))
+  where
+    d : List ℕ
+    d = derivative (primitive p w)
+
+    periodic : Periodic (vanishes p d) p
+    periodic = derivative-periodic p (primitive p w)
+
+    go : (c .level ≡ 0) ⊎ (0 < c .level) → markFrom p d c ≡ markOf w p n c
+    go (inl z) =
+        sym (mark-top-from p d c z) ∙ sym (mark-top (vanishes p d) p n hp periodic c z hn) ∙ sym (mark-over w p n hp c)
+    go (inr h) =
+        sym (mark-deep-from p d c (λ z. omega arith)) ∙ sym (mark-deep (vanishes p d) p n hp periodic c h) ∙ sym (mark-over w p n hp c)

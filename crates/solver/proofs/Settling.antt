@@ -9,9 +9,9 @@ use lib.Dec.{eqb}
 use lib.ListN.{length, length-map, getD, take}
 use lib.Seq.{getD-take}
 use Rattle.theory.specs.Range.{allBelow}
-use Rattle.theory.specs.Polynomial.{zeros}
+use Rattle.theory.specs.Polynomial.{zeros, divided}
 use Rattle.theory.specs.Degree.{leastValuation, degreeBound, allZero, every}
-use Rattle.theory.specs.inner.Polynomial.{coef, divided}
+use Rattle.theory.specs.inner.Polynomial.{coef}
 use Rattle.theory.proofs.Tests.{contradiction}
 use Rattle.theory.proofs.Numbers.Power.{pow-pos, pow-split}
 use Rattle.theory.proofs.Numbers.Prime.{prime-pos}

@@ -1,9 +1,8 @@
 // Polynomials in tables, the lowest degree first. A reader is lent the coefficients in use, so that no table is copied.
 ghost use mathlib.Core.Path.{_≡_};
 ghost use Prim.Native.Nat.{_%_, _≤_, _<_};
-ghost use Rattle.theory.specs.Polynomial.{value as valueOf};
+ghost use Rattle.theory.specs.Polynomial.{value as valueOf, divided};
 ghost use Rattle.theory.specs.Degree.{allZero};
-ghost use Rattle.theory.specs.inner.Polynomial.{divided};
 ghost use Rattle.solver.specs.inner.Table.{degreeModulo};
 
 // The value at x modulo m, by Horner's rule.

@@ -1,9 +1,10 @@
 // Valuations: how many times p divides a number.
 ghost use mathlib.Core.Path.{_≡_};
 ghost use mathlib.Core.Bool.{false};
-ghost use Prim.Native.Nat.{_≤_, _<_};
+ghost use Prim.Native.Nat.{_^_, _≤_, _<_};
 ghost use Rattle.theory.specs.Degree.{valuation as valuationOf, leastValuation, allZero};
 ghost use Rattle.solver.specs.inner.Table.{lowerOf};
+use crate::polynomial;
 
 // The valuation for p = 2 is the number of trailing zero bits.
 fn valuation_two(x: u64) -> u64
@@ -60,4 +61,16 @@ pub(crate) fn least_valuation(g: &[u32], p: u64) -> u64
         i += 1;
     }
     best
+}
+
+// The largest power of p that divides every coefficient, and 1 where all are zero.
+pub(crate) fn common_power(g: &[u32], p: u64) -> u64
+    requires { ⌜ (2 ≤ p) × (p ≤ 65535) ⌝ }
+    ensures { λ r. ⌜ r ≡ p ^ leastValuation p (now (g .entry)) ⌝ }
+{
+    if polynomial::all_zero(g) {
+        return 1;
+    }
+    let s = least_valuation(g, p);
+    numbers::power(p as u32, s as u32)
 }

@@ -2,6 +2,7 @@
 pub mod Equal
 pub mod Digit
 pub mod Whole
+pub mod Periodic
 pub mod Level
 pub mod Cover
 pub mod Rising

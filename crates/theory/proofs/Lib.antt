@@ -7,6 +7,7 @@ pub mod Passing
 pub mod Least
 pub mod Classes
 pub mod Polynomials
+pub mod Mark
 pub mod RootMap
 pub mod Stepping
 pub mod ThirdDemand

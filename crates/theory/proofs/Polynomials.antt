@@ -12,4 +12,5 @@ pub mod Degree
 pub mod Roots
 pub mod Signed
 pub mod Derivative
+pub mod Primitive
 pub mod Differences

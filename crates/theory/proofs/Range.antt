@@ -1,7 +1,7 @@
 -- Laws of the numbers of a range that pass a test.
 use mathlib.Core.Path.{_≡_, refl, sym, ap, ap₂, _∙_, subst}
 use mathlib.Core.Logic.{_⊎_, inl, inr}
-use mathlib.Core.Bool.{Bool, true, false, not, _||_}
+use mathlib.Core.Bool.{Bool, true, false, not, _||_, true≢false}
 use mathlib.Core.List.{[], _∷_, _++_}
 use Prim.Native.Nat.{_-_, ℕ, zero, suc, _+_, _≤_, _<_}
 use native.Mathlib.Nat.{eq-or-lt-of-le, add-zero}
@@ -47,6 +47,21 @@ all-same f g k h =
     same-test (allBelow f k) (allBelow g k)
     (λ e. all-intro g k (λ i l. sym (h i l) ∙ all-elim f k i e l))
     (λ e. all-intro f k (λ i l. h i l ∙ all-elim g k i e l))
+
+-- a test that takes one value
+pub all-constant : (f : ℕ → Bool) (k : ℕ) (b : Bool) → 0 < k → ((i : ℕ) → i < k → f i ≡ b) → allBelow f k ≡ b
+all-constant f k b pos h =
+    same-test (allBelow f k) b (λ e. sym (h 0 pos) ∙ all-elim f k 0 e pos) (λ e. all-intro f k (λ i l. h i l ∙ e))
+
+-- where not all pass, one fails
+pub some-fails : (f : ℕ → Bool) (k : ℕ) → allBelow f k ≡ false → (i : ℕ) × (i < k) × (f i ≡ false)
+unfolding allBelow
+some-fails f zero e = absurd (true≢false e)
+some-fails f (suc k) e = go (some-fails f k) (f k) refl
+  where
+    go : (allBelow f k ≡ false → (i : ℕ) × (i < k) × (f i ≡ false)) → (b : Bool) → f k ≡ b → (i : ℕ) × (i < suc k) × (f i ≡ false)
+    go ih true q = let (i, l, w) = ih (sym (all-on f k q) ∙ e) in (i, omega arith, w)
+    go ih false q = (k, omega arith, q)
 
 -- "some" as "not all not"
 pub some-passes : (f : ℕ → Bool) (k i : ℕ) → i < k → f i ≡ true → not (allBelow (λ j. not (f j)) k) ≡ true

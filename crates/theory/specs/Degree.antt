@@ -4,6 +4,7 @@ use mathlib.Core.List.{List, [], _∷_, map, foldr}
 use Prim.Native.Nat.{ℕ, zero, suc, _/_, _^_, min}
 use lib.Dec.{eqb}
 use Rattle.theory.specs.Prime.{divides}
+use Rattle.theory.specs.Polynomial.{divided}
 
 -- how many times p divides x, counted up to k
 unfoldable pub divisions : ℕ → ℕ → ℕ → ℕ
@@ -30,6 +31,11 @@ minimum (a ∷ f) = foldr min a f
 unfoldable pub leastValuation : ℕ → List ℕ → ℕ
 unfolding valuation nonzero minimum
 leastValuation p f = minimum (map (valuation p) (nonzero f))
+
+-- 02, 2.3: "divide by p^s of 01 to get g"; s is then 0, so g is called primitive at p
+unfoldable pub primitive : ℕ → List ℕ → List ℕ
+unfolding leastValuation divided
+primitive p f = divided (p ^ leastValuation p f) f
 
 -- some entry passes the test
 unfoldable pub some : (ℕ → Bool) → List ℕ → Bool

@@ -49,7 +49,7 @@ table =
     -- x² − 1, p = 2, n = 3
     ∷ case (minus1 ∷ pos 0 ∷ pos 1 ∷ []) 2 3 (class 1 1 ∷ []) (0 ∷ []) 4
     -- x³ + x², p = 2, n = 1
-    ∷ case (pos 0 ∷ pos 0 ∷ pos 1 ∷ pos 1 ∷ []) 2 1 (class 0 0 ∷ []) (0 ∷ []) 2
+    ∷ case (pos 0 ∷ pos 0 ∷ pos 1 ∷ pos 1 ∷ []) 2 1 (class 0 0 ∷ []) (2 ∷ []) 2
     -- x² + 3x, p = 3, n = 2
     ∷ case (pos 0 ∷ pos 3 ∷ pos 1 ∷ []) 3 2 (class 0 1 ∷ []) (0 ∷ []) 3
     -- x² + 3, p = 3, n = 2
@@ -63,5 +63,5 @@ table =
     -- x² + 1, p = 5, n = 2
     ∷ case (pos 1 ∷ pos 0 ∷ pos 1 ∷ []) 5 2 (class 7 2 ∷ class 18 2 ∷ []) (1 ∷ 1 ∷ []) 2
     -- 3x, p = 3, n = 2
-    ∷ case (pos 0 ∷ pos 3 ∷ []) 3 2 (class 0 1 ∷ []) (0 ∷ []) 3
+    ∷ case (pos 0 ∷ pos 3 ∷ []) 3 2 (class 0 1 ∷ []) (1 ∷ []) 3
     ∷ []

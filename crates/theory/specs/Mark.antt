@@ -1,18 +1,35 @@
--- The mark of a class, 01's term.
-use mathlib.Core.Bool.{true, false}
+-- The mark of a class, 01's term, as 02 (2.3) has it.
+use mathlib.Core.Bool.{Bool, true, false, not}
 use mathlib.Core.List.{List}
 use Prim.Native.Nat.{ℕ}
 use lib.IntN.{ℤ}
 use Rattle.theory.specs.Prime.{divides}
 use Rattle.theory.specs.Polynomial.{reduced, value, derivative}
+use Rattle.theory.specs.Degree.{allZero, primitive}
 use Rattle.theory.specs.Class.{Class}
+use Rattle.theory.specs.Shortest.{isWhole}
 
--- of coefficients that are reduced: "1 if p does not divide f'(a), otherwise 0"
-unfoldable pub markOf : List ℕ → ℕ → Class → ℕ
-unfolding value derivative divides
-markOf w p c = elim (divides p (value (derivative w) (c .residue))) [ true ↦ 0 | false ↦ 1 ]
+-- p divides g' at r
+unfoldable pub derivativeVanishes : ℕ → List ℕ → ℕ → Bool
+unfolding divides value derivative
+derivativeVanishes p g r = divides p (value (derivative g) r)
+
+-- 1 if none, 0 if all, 2 otherwise
+unfoldable pub markBy : (none all : Bool) → ℕ
+markBy none all = elim none [ true ↦ 1 | false ↦ elim all [ true ↦ 0 | false ↦ 2 ] ]
+
+-- the same of the members of a class that are in S: none of them is if all are outside
+unfoldable pub markOver : (ℕ → Bool) → ℕ → ℕ → Class → ℕ
+unfolding markBy isWhole
+markOver S p n c = markBy (isWhole (λ r. not (S r)) p n c) (isWhole S p n c)
+
+-- of coefficients that are reduced: "Where some reduced coefficient is not zero, divide by p^s of 01 to get g. A class is now marked 1 if p
+-- divides g' at none of its members, 0 if at all, 2 if at some. If all coefficients reduce to zero the mark is 0."
+unfoldable pub markOf : List ℕ → ℕ → ℕ → Class → ℕ
+unfolding allZero primitive derivativeVanishes markOver
+markOf w p n c = elim (allZero w) [ true ↦ 0 | false ↦ markOver (derivativeVanishes p (primitive p w)) p n c ]
 
 -- "Each class has a mark"
 unfoldable pub mark : List ℤ → ℕ → ℕ → Class → ℕ
 unfolding reduced markOf
-mark f p n c = markOf (reduced f p n) p c
+mark f p n c = markOf (reduced f p n) p n c

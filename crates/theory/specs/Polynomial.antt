@@ -2,7 +2,7 @@
 use mathlib.Core.Path.{_≡_}
 use mathlib.Core.Bool.{Bool}
 use mathlib.Core.List.{List, [], _∷_, map}
-use Prim.Native.Nat.{ℕ, suc, _+_, _-_, _*_, _%_, _^_}
+use Prim.Native.Nat.{ℕ, suc, _+_, _-_, _*_, _/_, _%_, _^_}
 use lib.IntN.{ℤ, pos, negsuc, _+ℤ_, _*ℤ_}
 use Rattle.theory.specs.Prime.{divides}
 
@@ -42,7 +42,12 @@ unfolding weighted
 derivative [] = []
 derivative (a ∷ f) = weighted 1 f
 
--- The same over the integers, before any reduction.
+-- f with each coefficient divided by q
+unfoldable pub divided : ℕ → List ℕ → List ℕ
+divided q [] = []
+divided q (a ∷ f) = a / q ∷ divided q f
+
+-- Over the integers, before any reduction.
 
 -- the value at x
 unfoldable pub valueℤ : List ℤ → ℕ → ℤ

@@ -1,11 +1,13 @@
 // One polynomial: all comparisons.
 use crate::bound;
 use crate::coefficients::Polynomial;
+use crate::content;
 use crate::library;
 use crate::listed;
 use crate::mapped;
+use crate::marks;
 use crate::modular::Modulus;
-use crate::modular::multiply_add;
+use crate::modular::power;
 use crate::plain;
 use crate::plain::Roots;
 use crate::table::byte;
@@ -51,9 +53,10 @@ fn residues(
     tally
 }
 
-// The classes and their marks one after the other, and their number.
+// The classes and their marks one after the other, and their number; h has the coefficients divided by p^s.
 fn classes(
-    f: Polynomial,
+    h: [u32; 65],
+    c: usize,
     x: Modulus,
     roots: Roots,
     residues: [u32; 65],
@@ -62,17 +65,15 @@ fn classes(
     k: usize,
     mut tally: Tally,
 ) -> Tally {
-    let g = f.g;
     let mut i: usize = 0;
     let mut r: u32 = 0;
     while r < x.m {
         let t = listed::level(roots, x, r);
         if t <= x.n {
             let same = (entry(residues, i) == r) & (byte(levels, i) == t);
-            let v = plain::evaluate(g, f.c, r, x.m);
-            let mark = 0 < multiply_add(v.derivative, 1, 0, x.p);
+            let mark = marks::mark(h, c, r, power(x.p, t), x);
             tally = tally.compare(tally::ENTRY, same);
-            tally = tally.compare(tally::MARK, byte(marks, i) == mark as u32);
+            tally = tally.compare(tally::MARK, byte(marks, i) == mark);
             i = i % 512 + 1;
         }
         r += 1;
@@ -85,6 +86,7 @@ pub(crate) fn run(polynomial: Polynomial, x: Modulus, mut tally: Tally) -> Tally
     let c = polynomial.c;
     let f = polynomial.f;
     let g = polynomial.g;
+    let h = content::divided(g, content::common_power(g, x));
     let roots = plain::find_roots(g, c, x.m);
     let s = library::solve(f, c, x);
     let list = s.residues;
@@ -96,13 +98,13 @@ pub(crate) fn run(polynomial: Polynomial, x: Modulus, mut tally: Tally) -> Tally
     tally = tally.compare(tally::ACCEPTED, k < 65);
     tally = tally.compare(tally::UNUSED, listed::unused(list, levels, marks, k));
     tally = tally.compare(tally::ROOTS, s.roots == roots.count as u64);
-    tally = tally.compare(tally::BOUND, bound::holds(g, x, k));
+    tally = tally.compare(tally::BOUND, bound::holds(h, x.p, k));
     tally = tally.compare(tally::TEST, library::test(f, c, x, x.m) == 2);
     tally = tally.compare(
         tally::NEXT,
         library::next(list, levels, k, x, x.m) == 4294967295,
     );
     tally = residues(polynomial, list, levels, k, x, roots, tally);
-    tally = classes(polynomial, x, roots, list, levels, marks, k, tally);
+    tally = classes(h, c, x, roots, list, levels, marks, k, tally);
     mapped::compare(list, levels, k, x, roots, tally)
 }

@@ -5,11 +5,13 @@
 mod bound;
 mod coefficients;
 mod comparison;
+mod content;
 mod drawn;
 mod factors;
 mod library;
 mod listed;
 mod mapped;
+mod marks;
 mod modular;
 mod plain;
 mod prefix;

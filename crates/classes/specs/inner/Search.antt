@@ -32,7 +32,7 @@ unfoldable pub containedBefore : ℕ → List ℕ → List ℕ → ℕ → ℕ �
 unfolding allBelow listedBefore
 containedBefore p residues levels i a t = not (allBelow (λ s. not (listedBefore residues levels i (a % p ^ s) s)) t)
 
--- the first index with "a mark above 1", and the length where there is none
+-- the first index with a mark above 2, and the length where there is none
 unfoldable pub firstHighMark : List ℕ → ℕ
 unfolding least markAbove
 firstHighMark marks = least (markAbove marks) (length marks) 0

@@ -23,4 +23,4 @@ reducedSolved w p n given = foundOr (reducedVerdict w p n given) (length (zeroCl
 
 abbrev pub reducedLists : List ℕ → ℕ → ℕ → Lists → Lists
 reducedLists w p n given =
-    listsFilled (reducedVerdict w p n given) (zeroClasses w p n) (map (markOf w p) (zeroClasses w p n)) given
+    listsFilled (reducedVerdict w p n given) (zeroClasses w p n) (map (markOf w p n) (zeroClasses w p n)) given

@@ -46,7 +46,3 @@ zeroDigits p f = passing (vanishes p f) p 0
 -- entry j is the j-th finite difference of f at c modulo p
 pub record Differences (p : ℕ) (f : List ℕ) (c : ℕ) (row : List ℕ) : Type 0 where
   pub at : (j : ℕ) → j < length row → getD row j 0 ≡ difference p j (value f) c % p
-
--- the mark at a from the derivative d
-unfoldable pub markFrom : ℕ → List ℕ → ℕ → ℕ
-markFrom p d a = elim (divides p (value d a)) [ true ↦ 0 | false ↦ 1 ]

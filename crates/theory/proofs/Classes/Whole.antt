@@ -1,7 +1,7 @@
 -- Whole classes.
 use mathlib.Core.Path.{_≡_, sym, ap, _∙_}
 use mathlib.Core.Logic.{_↔_}
-use mathlib.Core.Bool.{Bool, true}
+use mathlib.Core.Bool.{Bool, true, false}
 use Prim.Native.Nat.{ℕ, suc, _+_, _-_, _*_, _/_, _%_, _^_, _≤_, _<_}
 use native.Mathlib.Nat.{le-refl, div-lt-iff-lt-mul, div-add-mod', mul-le-mul-right, add-mul-mod-self-right, mod-eq-of-lt, mod-lt}
 use native.Mathlib.Nat.{mod-mod-of-dvd}
@@ -9,7 +9,7 @@ use native.Mathlib.Omega.{arith}
 use Rattle.theory.specs.Class.{Class, class, IsClass, Member}
 use Rattle.theory.specs.Shortest.{isWhole, classAt}
 use Rattle.theory.proofs.Numbers.Power.{pow-pos, pow-split, pow-dvd}
-use Rattle.theory.proofs.Range.{all-elim, all-intro}
+use Rattle.theory.proofs.Range.{all-elim, all-intro, some-fails}
 use Rattle.theory.proofs.Classes.Digit.{digit-lt, digit-mod, next-digit}
 
 module _ (S : ℕ → Bool) (p n : ℕ) (hp : 0 < p) where
@@ -22,15 +22,29 @@ module _ (S : ℕ → Bool) (p n : ℕ) (hp : 0 < p) where
       let s : c .residue + r / q * q ≡ r = omega (arith, div-add-mod' r q, m .congruent) in
       rw s at (all-elim (λ j. S (c .residue + j * q)) (p ^ (n - c .level)) (r / q) w i)
 
+  -- the members are a + i·p^t
+  member-at : (c : Class) → IsClass p n c → (i : ℕ) → i < p ^ (n - c .level) → Member p n c (c .residue + i * p ^ (c .level))
+  member-at c k i l =
+      let q = p ^ (c .level) in
+      record {
+        below = rw (pow-split p (k .level-fits)) (omega (arith, mul-le-mul-right q l, k .residue-fits));
+        congruent = add-mul-mod-self-right (c .residue) i q ∙ mod-eq-of-lt (k .residue-fits);
+      }
+
   -- and a class whose every member is in S is whole
   pub whole-intro : (c : Class) → IsClass p n c → ((r : ℕ) → Member p n c r → S r ≡ true) → isWhole S p n c ≡ true
   unfolding isWhole
   whole-intro c k f =
       let q = p ^ (c .level) in
-      all-intro (λ j. S (c .residue + j * q)) (p ^ (n - c .level)) (λ i l. f (c .residue + i * q) (record {
-        below = rw (pow-split p (k .level-fits)) (omega (arith, mul-le-mul-right q l, k .residue-fits));
-        congruent = add-mul-mod-self-right (c .residue) i q ∙ mod-eq-of-lt (k .residue-fits);
-      }))
+      all-intro (λ j. S (c .residue + j * q)) (p ^ (n - c .level)) (λ i l. f (c .residue + i * q) (member-at c k i l))
+
+  -- one that is not whole has a member outside S
+  pub whole-fails : (c : Class) → IsClass p n c → isWhole S p n c ≡ false → (r : ℕ) × Member p n c r × (S r ≡ false)
+  unfolding isWhole
+  whole-fails c k e =
+      let q = p ^ (c .level) in
+      let (i, l, w) = some-fails (λ j. S (c .residue + j * q)) (p ^ (n - c .level)) e in
+      (c .residue + i * q, member-at c k i l, w)
 
   -- "at level n a class is one residue and is whole if it is a root"
   pub whole-point : (r : ℕ) → r < p ^ n → S r ≡ true → isWhole S p n (classAt p r n) ≡ true

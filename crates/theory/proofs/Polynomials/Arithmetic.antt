@@ -5,8 +5,8 @@ use Prim.Native.Nat.{ℕ, zero, suc, _+_, _*_, _/_, _^_, _∣_}
 use native.Mathlib.Nat.{zero-add, add-zero, mul-zero, pow-zero, pow-succ', dvd-zero, dvd-add, dvd-mul-left-of-dvd}
 use native.Mathlib.Nat.{mul-div-cancel', zero-div}
 use native.Mathlib.Omega.{arith}
-use Rattle.theory.specs.Polynomial.{value}
-use Rattle.theory.specs.inner.Polynomial.{coef, plus, scale, stretch, divided}
+use Rattle.theory.specs.Polynomial.{value, divided}
+use Rattle.theory.specs.inner.Polynomial.{coef, plus, scale, stretch}
 
 -- Values
 

@@ -12,7 +12,7 @@ use borrow.Author.Tests.{eq-eqb, ne-eqb}
 use lib.Dec.{eqb}
 use lib.ListN.{length, length-append, length-map}
 use Rattle.theory.specs.Range.{allBelow}
-use Rattle.theory.specs.Polynomial.{zeros}
+use Rattle.theory.specs.Polynomial.{zeros, divided}
 use Rattle.theory.specs.Class.{Class}
 use Rattle.theory.specs.inner.Tree.{concatBelow, branch, deeper, tree}
 use Rattle.theory.proofs.Numbers.Power.{pow-pos, pow-one, pow-dvd}
@@ -20,7 +20,7 @@ use Rattle.theory.specs.Prime.{Prime}
 use Rattle.theory.proofs.Numbers.Prime.{prime-pos}
 use Rattle.theory.proofs.Range.{all-elim, all-intro}
 use Rattle.theory.proofs.Classes.Tree.{below, tree-whole, tree-none, tree-split}
-use Rattle.theory.specs.inner.Polynomial.{coef, divided, taylor, shifted, Degree}
+use Rattle.theory.specs.inner.Polynomial.{coef, taylor, shifted, Degree}
 use Rattle.theory.proofs.Polynomials.Arithmetic.{scale-divided, coef-scale, coef-stretch, value-zero}
 use Rattle.theory.proofs.Polynomials.Zeros.{zero-dvd, zeros-branch, zeros-divided, zeros-everything}
 use Rattle.theory.proofs.Polynomials.Orders.{AtMostOrder, sumFrom, sum-append, sum-same, orders-at-most-degree}

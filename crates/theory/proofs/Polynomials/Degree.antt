@@ -5,15 +5,15 @@ use mathlib.Core.Bool.{Bool, true, false, not}
 use mathlib.Core.List.{List, [], _∷_, map, foldr}
 use Prim.Native.Nat.{ℕ, suc, _*_, _/_, _^_, _≤_, _<_, _∣_, min}
 use native.Mathlib.Nat.{dvd-zero, dvd-trans, dvd-of-mul-dvd-mul-left, mul-dvd-mul-left, mul-div-cancel', eq-zero-or-pos, le-of-dvd, pow-suc}
-use native.Mathlib.Nat.{pow-le-pow-right, zero-div}
+use native.Mathlib.Nat.{pow-le-pow-right, pow-zero, zero-div}
 use native.Mathlib.Decide.{decLe}
 use native.Mathlib.Omega.{arith}
-use borrow.Author.Tests.{eqb-true, eqb-false, not-true, not-false}
+use borrow.Author.Tests.{eq-eqb, eqb-true, eqb-false, not-true, not-false}
 use lib.Dec.{eqb}
 use lib.ListN.{length}
 use Rattle.theory.specs.Lists.{In, here, there}
 use Rattle.theory.specs.Prime.{divides}
-use Rattle.theory.specs.Degree.{valuation, nonzero, leastValuation, some, highest, degreeBound, allZero}
+use Rattle.theory.specs.Degree.{valuation, nonzero, minimum, leastValuation, some, highest, degreeBound, allZero}
 use Rattle.theory.proofs.Tests.{contradiction, not-holding}
 use Rattle.theory.proofs.Lists.Names.{in-cons, in-nil}
 use Rattle.theory.proofs.Lists.Map.{in-map, map-in}
@@ -22,7 +22,7 @@ use Rattle.theory.proofs.Numbers.Power.{pow-dvd, pow-pos}
 use Rattle.theory.proofs.Numbers.Prime.{divides-dvd, dvd-divides}
 use Rattle.theory.proofs.Numbers.Valuation.{valuation-dvd, valuation-most}
 use Rattle.theory.specs.inner.Polynomial.{coef, Degree}
-use Rattle.theory.proofs.Polynomials.Highest.{some-in, coef-in, highest-passes, above-highest, highest-lt, not-all-zero}
+use Rattle.theory.proofs.Polynomials.Highest.{some-in, every-in, coef-in, highest-passes, above-highest, highest-lt, not-all-zero}
 
 -- The least valuation
 
@@ -54,6 +54,17 @@ in-nonzero (b ∷ f) a u = go (in-nonzero f a) (eqb b 0) refl
         pick : (a ≡ b) ⊎ In a (nonzero f) → In a (b ∷ f) × (0 < a)
         pick (inl e) = (here e, rw e (positive (eqb-false b 0 q)))
         pick (inr w) = up (ih w)
+
+-- where all coefficients are zero, s is 0
+no-nonzero : (f : List ℕ) → ((a : ℕ) → In a f → a ≡ 0) → nonzero f ≡ []
+unfolding nonzero
+no-nonzero [] h = refl
+no-nonzero (a ∷ f) h = rw (eq-eqb a 0 (h a (here refl)), nonzero) (no-nonzero f (λ b u. h b (there u)))
+
+pub common-power-none : (p : ℕ) (f : List ℕ) → allZero f ≡ true → p ^ leastValuation p f ≡ 1
+unfolding leastValuation minimum allZero
+common-power-none p f z =
+    rw (no-nonzero f (λ a u. eqb-true a 0 (every-in (λ x. eqb x 0) f z a u)), minimum) (pow-zero p)
 
 module _ (p : ℕ) (two : 2 ≤ p) (f : List ℕ) where
   pub least-valuation-le : (a : ℕ) → In a f → 0 < a → leastValuation p f ≤ valuation p a
@@ -155,13 +166,16 @@ module _ (p : ℕ) (two : 2 ≤ p) (f : List ℕ) where
             absurd (degree-bound-degree .lead
             (dvd-trans (p ^ suc s) (pow-dvd p (low (decLe (suc k) s))) (E .above (degreeBound p f) (omega arith))))
 
+    -- p^s is no larger than the coefficient at which s is attained
+    pub common-power-lt : (b : ℕ) → ((a : ℕ) → In a f → a < b) → p ^ leastValuation p f < b
+    common-power-lt b h =
+        let (a, u, w, e) = attained in
+        omega (arith, h a u, le-of-dvd w (subst (λ (t : ℕ). p ^ t ∣ a) e (valuation-dvd p two a)))
+
     -- where the coefficients are below p^n, s is below n
     pub least-valuation-lt : (n : ℕ) → ((a : ℕ) → In a f → a < p ^ n) → leastValuation p f < n
     least-valuation-lt n h = go (decLe n (leastValuation p f))
       where
         go : Dec (n ≤ leastValuation p f) → leastValuation p f < n
         go (no l) = omega arith
-        go (yes l) =
-            let (a, u, w, e) = attained in
-            let low : p ^ leastValuation p f ≤ a = le-of-dvd w (subst (λ (t : ℕ). p ^ t ∣ a) e (valuation-dvd p two a)) in
-            absurd (omega (arith, h a u, pow-le-pow-right {n = p} (omega arith) l))
+        go (yes l) = absurd (omega (arith, common-power-lt (p ^ n) h, pow-le-pow-right {n = p} (omega arith) l))

@@ -8,14 +8,14 @@ use native.Mathlib.Nat.{mod-eq-of-lt}
 use lib.Dec.{eqb}
 use lib.Pow.{pow-add}
 use Rattle.theory.specs.Prime.{divides}
-use Rattle.theory.specs.Polynomial.{value, zeros}
+use Rattle.theory.specs.Polynomial.{value, zeros, divided}
 use Rattle.theory.specs.Degree.{allZero}
 use Rattle.theory.specs.inner.Tree.{branch}
 use Rattle.theory.proofs.Tests.{same-test, not-holding}
 use Rattle.theory.proofs.Numbers.Power.{pow-pos, pow-one, pow-dvd}
 use Rattle.theory.proofs.Numbers.Prime.{divides-dvd, dvd-divides}
 use Rattle.theory.proofs.Numbers.Congruence.{cong-dvd}
-use Rattle.theory.specs.inner.Polynomial.{coef, divided, shifted}
+use Rattle.theory.specs.inner.Polynomial.{coef, shifted}
 use Rattle.theory.proofs.Polynomials.Arithmetic.{scale-divided, value-scale, value-zero, dvd-value}
 use Rattle.theory.proofs.Polynomials.Taylor.{value-shifted}
 use Rattle.theory.proofs.Polynomials.Congruence.{cong-argument}

@@ -1,6 +1,6 @@
--- Polynomials with natural coefficients: coefficients, sums, shifts, quotients by a number, degrees and differences.
+-- Polynomials with natural coefficients: coefficients, sums, shifts, degrees and differences.
 use mathlib.Core.List.{List, [], _∷_}
-use Prim.Native.Nat.{ℕ, zero, suc, _+_, _-_, _*_, _/_, _<_, _∣_}
+use Prim.Native.Nat.{ℕ, zero, suc, _+_, _-_, _*_, _<_, _∣_}
 use lib.ListN.{getD}
 
 -- the coefficient of y^i
@@ -33,11 +33,6 @@ taylor c (a ∷ f) = let g = taylor c f in plus (a ∷ g) (scale c g)
 -- the Taylor shift f(a + q·y)
 abbrev pub shifted : ℕ → ℕ → List ℕ → List ℕ
 shifted a q f = stretch q (taylor a f)
-
--- f with each coefficient divided by q
-unfoldable pub divided : ℕ → List ℕ → List ℕ
-divided q [] = []
-divided q (a ∷ f) = a / q ∷ divided q f
 
 -- the degree of f modulo q is d: q does not divide the coefficient of index d and divides all above it
 pub record Degree (q : ℕ) (f : List ℕ) (d : ℕ) : Type 0 where

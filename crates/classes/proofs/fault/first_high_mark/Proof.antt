@@ -1,4 +1,4 @@
--- `classes::fault::first_high_mark` meets its contract. The invariant: the first i marks are at most 1.
+-- `classes::fault::first_high_mark` meets its contract. The invariant: the first i marks are at most 2.
 use mathlib.Core.Path.{_≡_, sym}
 use mathlib.Core.Bool.{false}
 use Prim.Native.Nat.{ℕ, _-_, _≤_, _<_}
@@ -32,7 +32,7 @@ returns c =
     let l = b .before .args .marks .now in
     let i = b .loop .i in
     sym (least-is (markAbove l) (length l) 0 i (omega arith) (omega arith) (λ k low h. b .loop .inv .1 k h)
-    (λ h. lt-ltb 1 (getD l i 0) (c .if1 .taken)))
+    (λ h. lt-ltb 2 (getD l i 0) (c .if1 .taken)))
 
 add-i : tie.Need-add-i Inv-loop μ-loop
 add-i c = search needs
@@ -46,7 +46,7 @@ loop-again c =
     let b = c .before .before .before in
     let l = b .before .args .marks .now in
     let i = b .loop .i in
-    (omega arith, below-more (λ (k : ℕ). markAbove l k ≡ false) i (b .loop .inv .1) (le-ltb 1 (getD l i 0) (c .if1 .left)))
+    (omega arith, below-more (λ (k : ℕ). markAbove l k ≡ false) i (b .loop .inv .1) (le-ltb 2 (getD l i 0) (c .if1 .left)))
 
 returns-2 : tie.Need-returns-2 Inv-loop μ-loop
 unfolding firstHighMark

@@ -1,20 +1,17 @@
 -- `solver::mark::mark` meets its contract.
 use mathlib.Core.Path.{sym, _∙_}
-use native.Mathlib.Nat.{mod-lt}
 use native.Mathlib.Omega.{arith}
 use borrow.Author.Needs.{needs}
-use Rattle.solver.proofs.Marks.{mark-zero, mark-one}
+use Rattle.solver.specs.inner.Code.{classOf}
+use Rattle.solver.proofs.Marks.{mark-top-from, mark-deep-from}
 use Rattle.solver.proofs.mark.mark.Statement.{statement}
 use Rattle.solver.proofs.mark.mark.Tie as tie
 
-value-requires : tie.Need-value-requires
-value-requires c κs = let a = c .before in omega (arith, mod-lt (a .args .a) (a .pre .0))
-
 returns : tie.Need-returns
-returns c = mark-zero _ _ _ (sym (c .before .value .ensures) ∙ c .if1 .taken)
+returns c = c .mark-of-digits .ensures ∙ mark-top-from _ _ _ (c .before .if1 .taken)
 
 returns-2 : tie.Need-returns-2
-returns-2 c = mark-one _ _ _ (λ e. c .if1 .left (c .before .value .ensures ∙ e))
+returns-2 c = c .mark-at .ensures ∙ mark-deep-from _ _ _ (c .before .if1 .left)
 
 pub mark-spec : {M : Type 1} → statement M
-mark-spec = tie.close (tie.spec (λ c. search needs) value-requires returns returns-2)
+mark-spec = tie.close (tie.spec (λ c κs. search needs) returns (λ c κs. search needs) returns-2)

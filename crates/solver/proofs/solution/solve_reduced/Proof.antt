@@ -1,5 +1,5 @@
 -- `solver::solution::solve_reduced` meets its contract.
-use mathlib.Core.Path.{_≡_, sym, ap, ap₂, _∙_}
+use mathlib.Core.Path.{_≡_, sym, ap, ap₂, _∙_, fun-ext}
 use mathlib.Core.Logic.{inl, inr}
 use mathlib.Core.List.{List, _++_, map}
 use Prim.Native.Nat.{ℕ, min, _≤_}
@@ -10,15 +10,18 @@ use lib.ListN.{length, length-map, take, drop}
 use lib.Seq.{length-take-le, take-at}
 use Rattle.theory.specs.Class.{Class}
 use Rattle.theory.specs.ClassList.{levelsOf}
-use Rattle.theory.specs.Polynomial.{zeros}
+use Rattle.theory.specs.Polynomial.{zeros, derivative}
+use Rattle.theory.specs.Degree.{primitive}
 use Rattle.theory.specs.Mark.{markOf}
 use Rattle.theory.proofs.Numbers.Prime.{prime-pos}
 use Rattle.refusal.specs.Rules.{passes, filled}
 use Rattle.solver.specs.declared.Solved.the-variants.{Found}
 use Rattle.solver.specs.Solve.{Lists, lists}
 use Rattle.solver.specs.inner.Code.{code, classOf}
+use Rattle.solver.specs.inner.Marks.{markFrom}
 use Rattle.solver.specs.inner.Reduced.{zeroClasses}
 use Rattle.solver.proofs.Codes.{residues-fit, written, total-is}
+use Rattle.solver.proofs.Marks.{mark-is}
 use Rattle.solver.proofs.Verdicts.{lengths-refused, slots-refused, slots-pass}
 use Rattle.solver.proofs.solution.solve_reduced.Statement.{statement}
 use Rattle.solver.proofs.solution.solve_reduced.Tie as tie
@@ -117,6 +120,10 @@ module _ (c : tie.Else3) where
       → map h (map classOf (codes found)) ++ drop (length (codes found)) old ≡ filled passes (map h (L b)) old
   stands = written (zeros (w b) (p b) (n b)) (b .pre .0) (codes found) (found .zero-classes .ensures .1)
 
+  -- the marks from the derivative are those over all members
+  marks-are : markFrom (p b) (derivative (primitive (p b) (w b))) ≡ markOf (w b) (p b) (n b)
+  marks-are = let U = b .pre .0 in fun-ext (λ c. mark-is (w b) (p b) (n b) (prime-pos (U .prime)) (U .precise) c)
+
 array-share-prefix-codes : tie.Need-array-share-prefix-codes
 array-share-prefix-codes c = search needs
 
@@ -163,7 +170,16 @@ write-marks-requires c κs =
     let s = enough (c .before .before .before .before) in
     let a = b s in
     let U = a .pre .0 in
-    (omega (arith, long a, a .pre .1), omega (arith, long a, a .pre .2), prime-pos (U .prime), U .small, fit s .2)
+    (omega (arith, long a, a .pre .1), omega (arith, long a, a .pre .2), U .prime .two, U .small, fit s .2)
+
+-- Once the marks are written
+
+module _ (c : tie.After-write-marks) where
+  abbrev last : tie.Else3
+  last = enough (c .before .before .before .before .before)
+
+  marks-stand : c .write-marks .last .1 .1 .1 .0 ≡ filled passes (map (markOf (w (b last)) (p (b last)) (n (b last))) (L (b last))) (given (b last) .marks)
+  marks-stand = rw (← marks-are last) (c .write-marks .ensures ∙ stands last _ (given (b last) .marks))
 
 slice-reshare-prefix-member-total : tie.Need-slice-reshare-prefix-member-total
 slice-reshare-prefix-member-total c = search needs
@@ -201,7 +217,7 @@ returns-3 c =
           lists
           ((listed .write-residues .ensures ∙ stands s (λ (e : Class). e .residue) (given a .residues)) i)
           (levels-stand levelled i)
-          ((marked .write-marks .ensures ∙ stands s (markOf (w a) (p a)) (given a .marks)) i)),
+          (marks-stand marked i)),
     )
 
 pub solve-reduced-spec : {M : Type 1} → statement M

@@ -1,18 +1,16 @@
--- `trial::bound::holds` is safe and ends: `end - i` falls.
-use Prim.Native.Nat.{_-_}
+-- `trial::bound::holds` is safe and ends: i falls.
 use borrow.Author.Needs.{needs}
 use Rattle.trial.proofs.bound.holds.Statement.{statement}
 use Rattle.trial.proofs.bound.holds.Tie as tie
 
 abbrev Inv-loop : tie.InvT-loop
-Inv-loop g x k end i₀ i = Unit {0}
+Inv-loop h p k i₀ i = Unit {0}
 
 abbrev μ-loop : tie.MeasureT-loop
-μ-loop g x k end i₀ i = end - i
+μ-loop h p k i₀ i = i
 
 pub holds-spec : {M : Type 1} → statement M
 holds-spec =
     tie.close
-    (tie.spec Inv-loop μ-loop (λ c κs. search needs) (λ c. search needs) (λ c. search needs) (λ c. search needs) (λ c κs. search needs)
-    (λ c. search needs) (λ c κs. search needs) (λ c κs. search needs) (λ c. search needs) (λ c. search needs) (λ c. search needs)
-    (λ c. search needs) (λ c. search needs))
+    (tie.spec Inv-loop μ-loop (λ c. search needs) (λ c. search needs) (λ c κs. search needs) (λ c κs. search needs) (λ c. search needs)
+    (λ c. search needs) (λ c. search needs) (λ c. search needs))

@@ -5,14 +5,14 @@ use Rattle.trial.proofs.comparison.classes.Statement.{statement}
 use Rattle.trial.proofs.comparison.classes.Tie as tie
 
 abbrev Inv-loop : tie.InvT-loop
-Inv-loop f x roots residues levels marks k tally₀ g i₀ r₀ tally i r = Unit {0}
+Inv-loop h c x roots residues levels marks k tally₀ i₀ r₀ tally i r = Unit {0}
 
 abbrev μ-loop : tie.MeasureT-loop
-μ-loop f x roots residues levels marks k tally₀ g i₀ r₀ tally i r = x .m - r
+μ-loop h c x roots residues levels marks k tally₀ i₀ r₀ tally i r = x .m - r
 
 pub classes-spec : {M : Type 1} → statement M
 classes-spec =
     tie.close
     (tie.spec Inv-loop μ-loop (λ c. search needs) (λ c κs. search needs) (λ c κs. search needs) (λ c κs. search needs)
-    (λ c κs. search needs) (λ c κs. search needs) (λ c κs. search needs) (λ c κs. search needs) (λ c. search needs) (λ c κs. search needs)
-    (λ c. search needs) (λ c. search needs) (λ c. search needs) (λ c. search needs) (λ c κs. search needs) (λ c. search needs))
+    (λ c κs. search needs) (λ c κs. search needs) (λ c κs. search needs) (λ c κs. search needs) (λ c κs. search needs) (λ c. search needs)
+    (λ c. search needs) (λ c. search needs) (λ c. search needs) (λ c κs. search needs) (λ c. search needs))
