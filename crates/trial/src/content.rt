@@ -11,7 +11,8 @@ pub(crate) fn common_power(g: [u32; 65], x: Modulus) -> u32 {
     let mut i: u32 = 0;
     while i < end {
         let q = power(x.p, i / 65);
-        if 0 < multiply_add(entry(g, (i % 65) as usize), 1, 0, multiply_add(q, x.p, 0, 4294967295)) {
+        let next = multiply_add(q, x.p, 0, 4294967295);
+        if 0 < multiply_add(entry(g, (i % 65) as usize), 1, 0, next) {
             return q;
         }
         i += 1;
