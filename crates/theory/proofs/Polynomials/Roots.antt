@@ -1,29 +1,33 @@
 -- The solver's list for the roots of f: at most D classes, and the one class of everything where pⁿ divides all coefficients.
-use mathlib.Core.Path.{_≡_, sym}
+use mathlib.Core.Path.{_≡_, sym, ap, _∙_}
 use mathlib.Core.Bool.{Bool, true, false}
 use mathlib.Core.List.{List, [], _∷_}
-use Prim.Native.Nat.{ℕ, _^_, _≤_, _<_}
+use Prim.Native.Nat.{ℕ, _+_, _-_, _^_, _≤_, _<_, _∣_}
+use native.Mathlib.Nat.{dvd-trans, pow-le-pow-right}
 use native.Mathlib.Omega.{arith}
 use lib.IntN.{ℤ}
 use lib.ListN.{length, length-map}
 use Rattle.theory.specs.Lists.{In}
-use Rattle.theory.specs.Polynomial.{reduce, reduced, roots}
-use Rattle.theory.specs.Degree.{leastValuation, degreeBound, allZero}
+use Rattle.theory.specs.Polynomial.{reduce, reduced, value, zeros, roots}
+use Rattle.theory.specs.Degree.{leastValuation, primitive, degreeBound, allZero}
 use Rattle.theory.specs.Class.{class}
 use Rattle.theory.specs.Shortest.{shortest}
 use Rattle.theory.specs.inner.Tree.{tree}
 use Rattle.theory.proofs.Lists.Names.{in-nil}
 use Rattle.theory.proofs.Lists.Map.{in-map}
 use Rattle.theory.proofs.Lists.Permutation.{perm-length}
-use Rattle.theory.proofs.Numbers.Power.{pow-pos}
-use Rattle.theory.specs.Prime.{Prime}
-use Rattle.theory.proofs.Numbers.Prime.{prime-pos}
+use Rattle.theory.proofs.Numbers.Power.{pow-pos, pow-one, pow-dvd}
+use Rattle.theory.specs.Prime.{Prime, divides}
+use Rattle.theory.proofs.Numbers.Prime.{prime-pos, dvd-divides}
+use Rattle.theory.proofs.Passing.{passing-all}
 use Rattle.theory.proofs.Range.{all-intro}
 use Rattle.theory.proofs.Classes.Rising.{rising-perm, shortest-rising}
 use Rattle.theory.proofs.Classes.Tree.{tree-whole, tree-perm}
-use Rattle.theory.proofs.Polynomials.Zeros.{zeros-all}
+use Rattle.theory.proofs.Polynomials.Zeros.{zeros-all, zeros-divided, zero-dvd}
 use Rattle.theory.proofs.Polynomials.Bound.{tree-at-most}
-use Rattle.theory.proofs.Polynomials.Degree.{degree-bound-degree, degree-bound-lt, least-valuation-lt}
+use Rattle.theory.proofs.Polynomials.Degree.{degree-bound-degree, degree-bound-lt, least-valuation-dvd, least-valuation-lt}
+use Rattle.theory.proofs.Polynomials.Lagrange.{lagrange}
+use Rattle.theory.proofs.Polynomials.Primitive.{primitive-degree}
 use Rattle.theory.proofs.Polynomials.Signed.{reduce-lt}
 
 -- a set that holds every residue is listed as the one class of everything
@@ -65,3 +69,39 @@ module _ (f : List ℤ) (p n : ℕ) (P : Prime p) (some-left : allZero (reduced 
   pub D-lt : degreeBound p (reduced f p n) < length f
   unfolding reduced
   D-lt = omega (arith, degree-bound-lt p (P .two) (reduced f p n) some-left, length-map f (reduce (p ^ n)))
+
+  -- where everything is a root, so is every digit of g modulo p: p is at most D
+  pub everything-most : ((r : ℕ) → r < p ^ n → roots f p n r ≡ true) → p ≤ degreeBound p (reduced f p n)
+  unfolding roots primitive
+  everything-most all =
+      omega (
+        arith,
+        lagrange p P (degreeBound p w) (primitive p w) (primitive-degree p (P .two) w some-left),
+        passing-all (λ c. divides p (value (primitive p w) c)) p 0 (λ c l b. vanishes c (omega arith)),
+      )
+    where
+      w : List ℕ
+      w = reduced f p n
+
+      s : ℕ
+      s = leastValuation p w
+
+      low : s < n
+      low = least-valuation-lt p (P .two) w some-left n (reduced-lt f p n (prime-pos P))
+
+      room : p ≤ p ^ n
+      room =
+          let big : p ^ 1 ≤ p ^ n = pow-le-pow-right {n = p} (prime-pos P) {i = 1} {j = n} (omega (arith, low)) in
+          omega (arith, pow-one p, big)
+
+      same : zeros w p n ≡ zeros (primitive p w) p (n - s)
+      same =
+          let split : s + (n - s) ≡ n = omega (arith, low) in
+          ap (zeros w p) (sym split) ∙ zeros-divided w p s (n - s) (prime-pos P) (least-valuation-dvd p (P .two) w)
+
+      vanishes : (c : ℕ) → c < p → divides p (value (primitive p w) c) ≡ true
+      vanishes c l =
+          let root : zeros (primitive p w) p (n - s) c ≡ true = sym (ap (λ (S : ℕ → Bool). S c) same) ∙ all c (omega (arith, room)) in
+          let one : p ^ 1 ∣ p ^ (n - s) = pow-dvd p (omega (arith, low)) in
+          dvd-divides p (value (primitive p w) c)
+          (dvd-trans p (rw (pow-one p) at one) (zero-dvd (primitive p w) p (n - s) c root))
