@@ -78,6 +78,14 @@ static size_t times_root(int64_t *f, size_t count, uint32_t a, uint32_t m)
     return count + 1;
 }
 
+/* Multiplies by a power of p, so that the coefficients have a common factor. */
+static void times_power(int64_t *f, size_t count, uint32_t p, uint32_t n)
+{
+    int64_t m = (int64_t)power(p, n), factor = (int64_t)power(p, (uint32_t)draw(n));
+    for (size_t i = 0; i < count; i++)
+        f[i] = f[i] % m * factor;
+}
+
 static void test_modulus(uint32_t p, uint32_t n, int polynomials)
 {
     int64_t f[WIMPLECLAY_MAX_COEFFICIENTS];
@@ -88,6 +96,11 @@ static void test_modulus(uint32_t p, uint32_t n, int polynomials)
             f[j] = draw_coefficient(p, n);
         for (uint64_t roots = draw(6); roots > 0 && count < 65; roots--)
             count = times_root(f, count, (uint32_t)draw(m), m);
+        if (i % 4 == 1)
+            for (uint32_t digit = 0; digit < p && count < 65; digit++)
+                count = times_root(f, count, digit, m);
+        if (i % 3 == 1)
+            times_power(f, count, p, n);
         test_polynomial(f, count, p, n);
     }
 }
