@@ -19,12 +19,12 @@ use Rattle.theory.specs.Mark.{derivativeVanishes, markBy, markOver, mark
 use Rattle.theory.specs.inner.Polynomial.{coef}
 use Rattle.theory.proofs.Tests.{contradiction, not-holding}
 use Rattle.theory.proofs.Numbers.Power.{pow-pos}
-use Rattle.theory.proofs.Numbers.Congruence.{Congruent}
 use Rattle.theory.proofs.Numbers.Prime.{dvd-divides}
 use Rattle.theory.proofs.Range.{all-elim, all-constant}
-use Rattle.theory.proofs.Polynomials.Arithmetic.{coef-divided, dvd-value}
+use Rattle.theory.proofs.Polynomials.Arithmetic.{dvd-value}
 use Rattle.theory.proofs.Polynomials.Congruence.{cong-argument}
 use Rattle.theory.proofs.Polynomials.Derivative.{coef-derivative}
+use Rattle.theory.proofs.Polynomials.Primitive.{coef-primitive}
 use Rattle.theory.proofs.Polynomials.Highest.{all-zero-coef}
 use Rattle.theory.proofs.Classes.Whole.{whole-elim, whole-fails}
 use Rattle.theory.proofs.Classes.Periodic.{Periodic, whole-deep, whole-top}
@@ -55,7 +55,7 @@ mark-by-two true all e = absurd (omega arith)
 mark-by-two false true e = absurd (omega arith)
 mark-by-two false false e = (refl, refl)
 
-pub mark-by-single : (b : Bool) → ¬ (markBy (not b) b ≡ 2)
+mark-by-single : (b : Bool) → ¬ (markBy (not b) b ≡ 2)
 unfolding markBy
 mark-by-single true e = omega arith
 mark-by-single false e = omega arith
@@ -109,12 +109,12 @@ derivative-periodic p g x y e = ap (λ (z : ℕ). eqb z 0) (cong-argument (deriv
 -- Where all coefficients are zero the derivative vanishes everywhere, so that the other clause gives 0 too
 
 zero-vanishes : (p : ℕ) (w : List ℕ) → allZero w ≡ true → (r : ℕ) → derivativeVanishes p (primitive p w) r ≡ true
-unfolding derivativeVanishes primitive
+unfolding derivativeVanishes
 zero-vanishes p w z r =
-    dvd-divides p (value (derivative (primitive p w)) r) (dvd-value p (derivative (primitive p w)) r (λ i.
-    let q = p ^ leastValuation p w in
-    let none : coef (primitive p w) (suc i) ≡ 0 = coef-divided q w (suc i) ∙ rw (all-zero-coef w z (suc i)) (zero-div q) in
-    let times : coef (derivative (primitive p w)) i ≡ 0 = coef-derivative (primitive p w) i ∙ rw none (omega arith) in
+    let g = primitive p w in
+    dvd-divides p (value (derivative g) r) (dvd-value p (derivative g) r (λ i.
+    let none : coef g (suc i) ≡ 0 = coef-primitive p w (suc i) ∙ rw (all-zero-coef w z (suc i)) (zero-div (p ^ leastValuation p w)) in
+    let times : coef (derivative g) i ≡ 0 = coef-derivative g i ∙ rw none (omega arith) in
     rw times (dvd-zero p)))
 
 module _ (w : List ℕ) (p n : ℕ) (hp : 0 < p) where

@@ -14,11 +14,12 @@ unfoldable pub derivativeVanishes : ℕ → List ℕ → ℕ → Bool
 unfolding divides value derivative
 derivativeVanishes p g r = divides p (value (derivative g) r)
 
--- 1 if none, 0 if all, 2 otherwise
+-- "1 if … none …, 0 if … all, 2 if … some"
 unfoldable pub markBy : (none all : Bool) → ℕ
 markBy none all = elim none [ true ↦ 1 | false ↦ elim all [ true ↦ 0 | false ↦ 2 ] ]
 
--- the same of the members of a class that are in S: none of them is if all are outside
+-- this of the members of a class that are in the set S: a class is whole if all its members are, so none is if it is whole for the set of
+-- the numbers outside S
 unfoldable pub markOver : (ℕ → Bool) → ℕ → ℕ → Class → ℕ
 unfolding markBy isWhole
 markOver S p n c = markBy (isWhole (λ r. not (S r)) p n c) (isWhole S p n c)

@@ -1,7 +1,7 @@
 -- Sets that are told by the residue modulo p: the members of a class of level 1 or more are in such a set all or none, and those of a class
 -- of level 0 have every digit as a residue modulo p.
 use mathlib.Core.Path.{_≡_, sym, ap, _∙_}
-use mathlib.Core.Bool.{Bool, true}
+use mathlib.Core.Bool.{Bool}
 use Prim.Native.Nat.{ℕ, zero, suc, _+_, _-_, _*_, _%_, _^_, _≤_, _<_}
 use native.Mathlib.Nat.{add-mul-mod-self-right, mod-lt, pow-suc, pow-zero, pow-le-pow-right}
 use native.Mathlib.Omega.{arith}

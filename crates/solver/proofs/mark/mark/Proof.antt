@@ -1,8 +1,6 @@
 -- `solver::mark::mark` meets its contract.
-use mathlib.Core.Path.{sym, _∙_}
-use native.Mathlib.Omega.{arith}
+use mathlib.Core.Path.{_∙_}
 use borrow.Author.Needs.{needs}
-use Rattle.solver.specs.inner.Code.{classOf}
 use Rattle.solver.proofs.Marks.{mark-top-from, mark-deep-from}
 use Rattle.solver.proofs.mark.mark.Statement.{statement}
 use Rattle.solver.proofs.mark.mark.Tie as tie

@@ -1,5 +1,5 @@
 -- `solver::mark::mark_of_digits` meets its contract. The invariant: the digits below c have the mark of digit 0.
-use mathlib.Core.Path.{_≡_, refl, sym, _∙_}
+use mathlib.Core.Path.{_≡_, sym, _∙_}
 use Prim.Native.Nat.{ℕ, _-_, _≤_, _<_}
 use native.Mathlib.Omega.{arith}
 use borrow.Author.Count.{below-more}
