@@ -18,8 +18,7 @@ derivativeVanishes p g r = divides p (value (derivative g) r)
 unfoldable pub markBy : (none all : Bool) → ℕ
 markBy none all = elim none [ true ↦ 1 | false ↦ elim all [ true ↦ 0 | false ↦ 2 ] ]
 
--- this of the members of a class that are in the set S: a class is whole if all its members are, so none is if it is whole for the set of
--- the numbers outside S
+-- by the members of a class that are in a set S: `isWhole` says that all are, and none is where all are outside S
 unfoldable pub markOver : (ℕ → Bool) → ℕ → ℕ → Class → ℕ
 unfolding markBy isWhole
 markOver S p n c = markBy (isWhole (λ r. not (S r)) p n c) (isWhole S p n c)
