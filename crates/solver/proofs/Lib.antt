@@ -1,11 +1,11 @@
 -- Laws of the solver's inner definitions.
 mod Tables
 mod Lowest
-mod Marks
 mod Sorting
 mod Sorted
 mod Shift
 mod Zeros
+mod Marks
 mod Linear
 mod FiniteDifferences
 mod Codes

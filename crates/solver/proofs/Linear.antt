@@ -9,12 +9,12 @@ use native.Mathlib.Omega.{arith}
 use lib.ListN.{length}
 use Rattle.theory.specs.Lists.{In}
 use Rattle.theory.specs.Prime.{Prime}
-use Rattle.theory.specs.Polynomial.{value}
+use Rattle.theory.specs.Polynomial.{value, vanishes}
 use Rattle.theory.specs.inner.Polynomial.{coef, Degree}
 use Rattle.theory.proofs.Lists.Names.{in-nil, in-single}
 use Rattle.theory.proofs.Range.{passing-complete}
 use Rattle.theory.proofs.Numbers.Congruence.{Congruent, cong-refl, cong-trans, cong-of-eq, cong-add, cong-mul, cong-mod, dvd-cong}
-use Rattle.solver.specs.inner.Table.{zeroDigits, vanishes}
+use Rattle.solver.specs.inner.Table.{zeroDigits}
 use Rattle.solver.proofs.Zeros.{few, vanishes-on}
 
 none : (l : List ℕ) → length l ≤ 0 → l ≡ []

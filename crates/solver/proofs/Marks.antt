@@ -1,5 +1,5 @@
 -- Marks from the derivative modulo p.
-use mathlib.Core.Path.{_≡_, refl, sym, ap, _∙_, fun-ext}
+use mathlib.Core.Path.{_≡_, refl, sym, ap, _∙_}
 use mathlib.Core.Logic.{_⊎_, inl, inr}
 use mathlib.Core.Bool.{Bool, true, false, not}
 use mathlib.Core.List.{List}
@@ -10,23 +10,22 @@ use borrow.Author.Tests.{eq-eqb, ne-eqb}
 use lib.Dec.{eqb}
 use lib.ListN.{length, List·getD-eq-default}
 use Rattle.theory.specs.Range.{allBelow}
-use Rattle.theory.specs.Prime.{divides}
-use Rattle.theory.specs.Polynomial.{value, derivative}
+use Rattle.theory.specs.Polynomial.{value, vanishes, derivative}
 use Rattle.theory.specs.Degree.{allZero, primitive}
 use Rattle.theory.specs.Class.{Class}
-use Rattle.theory.specs.Mark.{derivativeVanishes, markBy, markOf}
+use Rattle.theory.specs.Mark.{markBy, markOf}
 use Rattle.theory.specs.inner.Polynomial.{coef}
 use Rattle.theory.proofs.Numbers.Congruence.{cong-mod}
-use Rattle.theory.proofs.Numbers.Prime.{divides-on, divides-off, dvd-divides}
-use Rattle.theory.proofs.Polynomials.Arithmetic.{dvd-value}
-use Rattle.theory.proofs.Polynomials.Congruence.{cong-argument, cong-coefficients}
+use Rattle.theory.proofs.Polynomials.Congruence.{cong-argument}
 use Rattle.theory.proofs.Polynomials.Derivative.{coef-derivative}
 use Rattle.theory.proofs.Polynomials.Highest.{all-zero-coef}
 use Rattle.theory.proofs.Classes.Periodic.{Periodic}
-use Rattle.theory.proofs.Mark.{mark-by-told, mark-constant, mark-mixed, mark-deep, mark-top, derivative-periodic, mark-over}
-use Rattle.solver.specs.inner.Table.{Residues, vanishes}
+use Rattle.theory.proofs.Mark.{mark-by-told, mark-constant, mark-mixed, mark-deep, mark-top, vanishes-periodic}
+use Rattle.theory.proofs.Mark.{zero-vanishes, mark-over}
+use Rattle.solver.specs.inner.Table.{Residues}
 use Rattle.solver.specs.inner.Marks.{markAt, markOfDigits, markFrom}
 use Rattle.solver.proofs.Tables.{residues-same}
+use Rattle.solver.proofs.Zeros.{vanishes-on, vanishes-off, vanishes-same}
 
 -- One value, at a modulo p
 
@@ -34,21 +33,19 @@ same-value : (p a : ℕ) (f : List ℕ) → value f (a % p) % p ≡ value f a % 
 same-value p a f = cong-argument f (cong-mod p a) .same
 
 pub mark-zero : (p a : ℕ) (f : List ℕ) → value f (a % p) % p ≡ 0 → 0 ≡ markAt p f a
-unfolding vanishes markBy
-mark-zero p a f e = rw (divides-on p (value f a) (sym (same-value p a f) ∙ e))
+unfolding markBy
+mark-zero p a f e = rw (vanishes-on p f a (sym (same-value p a f) ∙ e))
 
 pub mark-one : (p a : ℕ) (f : List ℕ) → (value f (a % p) % p ≡ 0 → ⊥) → 1 ≡ markAt p f a
-unfolding vanishes markBy
-mark-one p a f ne = rw (divides-off p (value f a) (λ e. ne (same-value p a f ∙ e)))
+unfolding markBy
+mark-one p a f ne = rw (vanishes-off p f a (λ e. ne (same-value p a f ∙ e)))
 
 -- The p digits
 
 module _ (p : ℕ) (d : List ℕ) (hp : 0 < p) where
   pub digits-zero : allZero d ≡ true → 0 ≡ markOfDigits p d
-  unfolding vanishes markBy
-  digits-zero z =
-      sym (mark-constant (vanishes p d) p true hp (λ c l.
-      dvd-divides p (value d c) (dvd-value p d c (λ i. rw (all-zero-coef d z i) (dvd-zero p)))))
+  unfolding markBy
+  digits-zero z = sym (mark-constant (vanishes p d) p true hp (λ c l. zero-vanishes p d (all-zero-coef d z) c))
 
   pub digits-same : ((c : ℕ) → c < p → markAt p d c ≡ markAt p d 0) → markAt p d 0 ≡ markOfDigits p d
   digits-same h =
@@ -80,11 +77,9 @@ derivative-beyond f i h = coef-derivative f i ∙ rw (List·getD-eq-default f 0 
 -- it may be taken modulo p
 pub mark-residues : (p : ℕ) (g d : List ℕ) → length d ≡ length g - 1 → Residues p d (derivative g) → (c : Class)
     → markFrom p d c ≡ markFrom p (derivative g) c
-unfolding markFrom vanishes divides
+unfolding markFrom
 mark-residues p g d n r c =
-    let same : vanishes p d ≡ vanishes p (derivative g) =
-    fun-ext (λ x. ap (λ (y : ℕ). eqb y 0) (cong-coefficients d (derivative g) x
-    (residues-same r (λ i h. rw (derivative-beyond g i (omega arith)) (dvd-zero p))) .same)) in
+    let same = vanishes-same d (derivative g) (residues-same r (λ i h. rw (derivative-beyond g i (omega arith)) (dvd-zero p))) in
     ap (λ (S : ℕ → Bool). elim (eqb (c .level) 0) [
       | true ↦ markBy (allBelow (λ x. not (S x)) p) (allBelow S p)
       | false ↦ markBy (not (S (c .residue))) (S (c .residue))
@@ -92,14 +87,13 @@ mark-residues p g d n r c =
 
 -- and of g = f / p^s it gives the mark over all members
 pub mark-is : (w : List ℕ) (p n : ℕ) → 0 < p → 0 < n → (c : Class) → markFrom p (derivative (primitive p w)) c ≡ markOf w p n c
-unfolding vanishes derivativeVanishes
 mark-is w p n hp hn c = go (eq-zero-or-pos (c .level))
   where
     d : List ℕ
     d = derivative (primitive p w)
 
     periodic : Periodic (vanishes p d) p
-    periodic = derivative-periodic p (primitive p w)
+    periodic = vanishes-periodic p d
 
     go : (c .level ≡ 0) ⊎ (0 < c .level) → markFrom p d c ≡ markOf w p n c
     go (inl z) =

@@ -8,7 +8,7 @@ use native.Mathlib.Omega.{arith}
 use lib.Dec.{eqb}
 use lib.ListN.{length, length-map}
 use Rattle.theory.specs.Range.{allBelow, passing}
-use Rattle.theory.specs.Polynomial.{zeros}
+use Rattle.theory.specs.Polynomial.{vanishes, zeros}
 use Rattle.theory.specs.Degree.{every}
 use Rattle.theory.specs.Class.{Class}
 use Rattle.theory.specs.inner.Tree.{tree, branch, deeper}
@@ -27,7 +27,7 @@ use Rattle.solver.specs.declared.tree.PrimePower.{PrimePower}
 use Rattle.solver.specs.declared.tree.Node.{Node}
 use Rattle.solver.specs.declared.tree.Settled.{Settled}
 use Rattle.solver.specs.inner.Code.{code}
-use Rattle.solver.specs.inner.Table.{vanishes, degreeModulo, zeroDigits}
+use Rattle.solver.specs.inner.Table.{degreeModulo, zeroDigits}
 use Rattle.solver.specs.inner.Recursion.{Primitive, Appended, Done, childAt, within, codesWithin}
 use Rattle.solver.proofs.Appended.{added-none, added-more, added-anew}
 use Rattle.solver.proofs.Node.{within-child}

@@ -10,7 +10,7 @@ use lib.Dec.{eqb}
 use lib.ListN.{length, take, set, length-append, length-set}
 use Rattle.theory.specs.Range.{passing}
 use Rattle.theory.specs.Prime.{divides, Prime}
-use Rattle.theory.specs.Polynomial.{value}
+use Rattle.theory.specs.Polynomial.{value, vanishes}
 use Rattle.theory.specs.Degree.{highest}
 use Rattle.theory.specs.inner.Polynomial.{coef, Degree}
 use Rattle.theory.proofs.Tests.{contradiction}
@@ -21,7 +21,7 @@ use Rattle.theory.proofs.Numbers.Congruence.{cong-sym, cong-dvd}
 use Rattle.theory.proofs.Polynomials.Congruence.{cong-coefficients, SameModulo}
 use Rattle.theory.proofs.Polynomials.Highest.{above-highest, highest-passes, highest-lt}
 use Rattle.theory.proofs.Polynomials.Lagrange.{lagrange}
-use Rattle.solver.specs.inner.Table.{prime-to, degreeModulo, nonzeroModulo, vanishes}
+use Rattle.solver.specs.inner.Table.{prime-to, degreeModulo, nonzeroModulo}
 
 pub vanishes-on : (p : ℕ) (f : List ℕ) (c : ℕ) → value f c % p ≡ 0 → vanishes p f c ≡ true
 unfolding vanishes
@@ -33,7 +33,6 @@ vanishes-off p f c ne = divides-off p (value f c) ne
 
 -- at most as many as the degree
 pub few : (p d : ℕ) (f : List ℕ) → Prime p → Degree p f d → (k : ℕ) → k ≤ p → length (passing (vanishes p f) k 0) ≤ d
-unfolding vanishes
 few p d f P D k h = le-trans (passing-shorter (vanishes p f) k p h) (lagrange p P d f D)
 
 -- the digits below c at which f vanishes are found, in the first `count` slots

@@ -11,11 +11,11 @@ use lib.IntN.{ℤ}
 use borrow.Author.Tests.{not-true, not-false}
 use Rattle.theory.specs.Range.{allBelow}
 use Rattle.theory.specs.Prime.{divides}
-use Rattle.theory.specs.Polynomial.{reduced, value, derivative}
+use Rattle.theory.specs.Polynomial.{reduced, value, vanishes, derivative}
 use Rattle.theory.specs.Degree.{leastValuation, allZero, primitive}
 use Rattle.theory.specs.Class.{Class, IsClass, Member}
 use Rattle.theory.specs.Shortest.{isWhole}
-use Rattle.theory.specs.Mark.{derivativeVanishes, markBy, markOver, markOf, mark}
+use Rattle.theory.specs.Mark.{markBy, markOver, markOf, mark}
 use Rattle.theory.specs.inner.Polynomial.{coef}
 use Rattle.theory.proofs.Tests.{contradiction, not-holding}
 use Rattle.theory.proofs.Numbers.Power.{pow-pos}
@@ -101,38 +101,40 @@ module _ (S : ℕ → Bool) (p n : ℕ) (hp : 0 < p) (periodic : Periodic S p) w
   mark-top c top pos =
       rw top (ap₂ markBy (whole-top (λ r. not (S r)) p n hp outside (c .residue) pos) (whole-top S p n hp periodic (c .residue) pos))
 
--- p divides g' at a number or not, told by its residue modulo p
-pub derivative-periodic : (p : ℕ) (g : List ℕ) → Periodic (derivativeVanishes p g) p
-unfolding derivativeVanishes divides
-derivative-periodic p g x y e = ap (λ (z : ℕ). eqb z 0) (cong-argument (derivative g) e .same)
+-- such a set are the numbers at which a polynomial vanishes modulo p
+pub vanishes-periodic : (p : ℕ) (f : List ℕ) → Periodic (vanishes p f) p
+unfolding vanishes divides
+vanishes-periodic p f x y e = ap (λ (z : ℕ). eqb z 0) (cong-argument f e .same)
 
 -- Where all coefficients are zero the derivative vanishes everywhere, so that the other clause gives 0 too
 
-zero-vanishes : (p : ℕ) (w : List ℕ) → allZero w ≡ true → (r : ℕ) → derivativeVanishes p (primitive p w) r ≡ true
-unfolding derivativeVanishes
-zero-vanishes p w z r =
-    let g = primitive p w in
-    dvd-divides p (value (derivative g) r) (dvd-value p (derivative g) r (λ i.
-    let none : coef g (suc i) ≡ 0 = coef-primitive p w (suc i) ∙ rw (all-zero-coef w z (suc i)) (zero-div (p ^ leastValuation p w)) in
-    let times : coef (derivative g) i ≡ 0 = coef-derivative g i ∙ rw none (omega arith) in
-    rw times (dvd-zero p)))
+pub zero-vanishes : (p : ℕ) (f : List ℕ) → ((i : ℕ) → coef f i ≡ 0) → (r : ℕ) → vanishes p f r ≡ true
+unfolding vanishes
+zero-vanishes p f z r = dvd-divides p (value f r) (dvd-value p f r (λ i. rw (z i) (dvd-zero p)))
+
+derivative-zero : (p : ℕ) (w : List ℕ) → allZero w ≡ true → (i : ℕ) → coef (derivative (primitive p w)) i ≡ 0
+derivative-zero p w z i =
+    let q = p ^ leastValuation p w in
+    let none : coef (primitive p w) (suc i) ≡ 0 = coef-primitive p w (suc i) ∙ rw (all-zero-coef w z (suc i)) (zero-div q) in
+    coef-derivative (primitive p w) i ∙ rw none (omega arith)
 
 module _ (w : List ℕ) (p n : ℕ) (hp : 0 < p) where
-  pub mark-over : (c : Class) → markOf w p n c ≡ markOver (derivativeVanishes p (primitive p w)) p n c
+  pub mark-over : (c : Class) → markOf w p n c ≡ markOver (vanishes p (derivative (primitive p w))) p n c
   unfolding markOf markOver isWhole markBy
   mark-over c = go (allZero w) refl
     where
-      go : (b : Bool) → allZero w ≡ b → markOf w p n c ≡ markOver (derivativeVanishes p (primitive p w)) p n c
+      go : (b : Bool) → allZero w ≡ b → markOf w p n c ≡ markOver (vanishes p (derivative (primitive p w))) p n c
       go true z =
+          let d = derivative (primitive p w) in
           rw (z, markOf)
-          (sym (mark-constant (λ i. derivativeVanishes p (primitive p w) (c .residue + i * p ^ (c .level))) (p ^ (n - c .level)) true
-          (pow-pos p hp (n - c .level)) (λ i l. zero-vanishes p w z (c .residue + i * p ^ (c .level)))))
+          (sym (mark-constant (λ i. vanishes p d (c .residue + i * p ^ (c .level))) (p ^ (n - c .level)) true
+          (pow-pos p hp (n - c .level)) (λ i l. zero-vanishes p d (derivative-zero p w z) (c .residue + i * p ^ (c .level)))))
       go false z = rw (z, markOf)
 
   pub mark-of-most : (c : Class) → markOf w p n c ≤ 2
   unfolding markOver
   mark-of-most c =
-      let S = derivativeVanishes p (primitive p w) in
+      let S = vanishes p (derivative (primitive p w)) in
       rw (mark-over c) (mark-by-most (isWhole (λ r. not (S r)) p n c) (isWhole S p n c))
 
   -- 2 is a mark of level 0 only
@@ -140,35 +142,36 @@ module _ (w : List ℕ) (p n : ℕ) (hp : 0 < p) where
   mark-two c e = go (eq-zero-or-pos (c .level))
     where
       S : ℕ → Bool
-      S = derivativeVanishes p (primitive p w)
+      S = vanishes p (derivative (primitive p w))
 
       go : (c .level ≡ 0) ⊎ (0 < c .level) → c .level ≡ 0
       go (inl z) = z
       go (inr deep) =
-          absurd (mark-by-single (S (c .residue)) (sym (mark-deep S p n hp (derivative-periodic p (primitive p w)) c deep) ∙ sym (mark-over c) ∙ e))
+          let periodic = vanishes-periodic p (derivative (primitive p w)) in
+          absurd (mark-by-single (S (c .residue)) (sym (mark-deep S p n hp periodic c deep) ∙ sym (mark-over c) ∙ e))
 
 -- What a mark says of the members
 
 module _ (w : List ℕ) (p n : ℕ) (hp : 0 < p) (c : Class) (k : IsClass p n c) where
   abbrev S : ℕ → Bool
-  S = derivativeVanishes p (primitive p w)
+  S = vanishes p (derivative (primitive p w))
 
   parts : (m : ℕ) → markOf w p n c ≡ m → markBy (isWhole (λ r. not (S r)) p n c) (isWhole S p n c) ≡ m
   unfolding markOver
   parts m e = sym (mark-over w p n hp c) ∙ e
 
-  pub mark-one-none : markOf w p n c ≡ 1 → (r : ℕ) → Member p n c r → derivativeVanishes p (primitive p w) r ≡ false
+  pub mark-one-none : markOf w p n c ≡ 1 → (r : ℕ) → Member p n c r → vanishes p (derivative (primitive p w)) r ≡ false
   mark-one-none e r m =
       let none = mark-by-one (isWhole (λ x. not (S x)) p n c) (isWhole S p n c) (parts 1 e) in
       not-true (S r) (whole-elim (λ x. not (S x)) p n hp c (k .level-fits) none r m)
 
-  pub mark-zero-all : markOf w p n c ≡ 0 → (r : ℕ) → Member p n c r → derivativeVanishes p (primitive p w) r ≡ true
+  pub mark-zero-all : markOf w p n c ≡ 0 → (r : ℕ) → Member p n c r → vanishes p (derivative (primitive p w)) r ≡ true
   mark-zero-all e r m =
       whole-elim S p n hp c (k .level-fits) (mark-by-zero (isWhole (λ x. not (S x)) p n c) (isWhole S p n c) (parts 0 e)) r m
 
   pub mark-two-some : markOf w p n c ≡ 2
-      → ((r : ℕ) × Member p n c r × (derivativeVanishes p (primitive p w) r ≡ true))
-      × ((r : ℕ) × Member p n c r × (derivativeVanishes p (primitive p w) r ≡ false))
+      → ((r : ℕ) × Member p n c r × (vanishes p (derivative (primitive p w)) r ≡ true))
+      × ((r : ℕ) × Member p n c r × (vanishes p (derivative (primitive p w)) r ≡ false))
   mark-two-some e =
       let both = mark-by-two (isWhole (λ x. not (S x)) p n c) (isWhole S p n c) (parts 2 e) in
       let (r, m, u) = whole-fails (λ x. not (S x)) p n hp c k (both .0) in

@@ -32,7 +32,7 @@ unfoldable pub leastValuation : ℕ → List ℕ → ℕ
 unfolding valuation nonzero minimum
 leastValuation p f = minimum (map (valuation p) (nonzero f))
 
--- 02, 2.3: "divide by p^s of 01 to get g"; p does not divide all of g, which is called primitive for that
+-- 02, 2.3: "Where some reduced coefficient is not zero, divide by p^s of 01 to get g"; p then does not divide all of g, the primitive part
 unfoldable pub primitive : ℕ → List ℕ → List ℕ
 unfolding leastValuation divided
 primitive p f = divided (p ^ leastValuation p f) f

@@ -1,5 +1,5 @@
--- 01's cases marked (M) ("Polynomials to check against"), as a table, with 02's marks (2.3): "3x modulo 9 has mark 1 and x³ + x² modulo 2 has
--- mark 2; 01's other cases keep theirs".
+-- 01's cases marked (M) ("Polynomials to check against"), as a table, with 02's marks (2.3): "3x modulo 9 has mark 1 and x³ + x² modulo 2
+-- has mark 2; 01's other cases keep theirs".
 use mathlib.Core.List.{List, [], _∷_, map}
 use Prim.Native.Nat.{ℕ}
 use lib.IntN.{ℤ, pos, negsuc}

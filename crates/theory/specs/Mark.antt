@@ -3,16 +3,10 @@ use mathlib.Core.Bool.{Bool, true, false, not}
 use mathlib.Core.List.{List}
 use Prim.Native.Nat.{ℕ}
 use lib.IntN.{ℤ}
-use Rattle.theory.specs.Prime.{divides}
-use Rattle.theory.specs.Polynomial.{reduced, value, derivative}
+use Rattle.theory.specs.Polynomial.{reduced, vanishes, derivative}
 use Rattle.theory.specs.Degree.{allZero, primitive}
 use Rattle.theory.specs.Class.{Class}
 use Rattle.theory.specs.Shortest.{isWhole}
-
--- p divides g' at r
-unfoldable pub derivativeVanishes : ℕ → List ℕ → ℕ → Bool
-unfolding divides value derivative
-derivativeVanishes p g r = divides p (value (derivative g) r)
 
 -- "1 if … none …, 0 if … all, 2 if … some"
 unfoldable pub markBy : (none all : Bool) → ℕ
@@ -26,8 +20,8 @@ markOver S p n c = markBy (isWhole (λ r. not (S r)) p n c) (isWhole S p n c)
 -- of coefficients that are reduced: "Where some reduced coefficient is not zero, divide by p^s of 01 to get g. A class is now marked 1 if p
 -- divides g' at none of its members, 0 if at all, 2 if at some. If all coefficients reduce to zero the mark is 0."
 unfoldable pub markOf : List ℕ → ℕ → ℕ → Class → ℕ
-unfolding allZero primitive derivativeVanishes markOver
-markOf w p n c = elim (allZero w) [ true ↦ 0 | false ↦ markOver (derivativeVanishes p (primitive p w)) p n c ]
+unfolding allZero primitive derivative vanishes markOver
+markOf w p n c = elim (allZero w) [ true ↦ 0 | false ↦ markOver (vanishes p (derivative (primitive p w))) p n c ]
 
 -- "Each class has a mark"
 unfoldable pub mark : List ℤ → ℕ → ℕ → Class → ℕ

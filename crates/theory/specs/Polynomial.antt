@@ -21,6 +21,11 @@ unfoldable pub value : List ℕ → ℕ → ℕ
 value [] x = 0
 value (a ∷ f) x = a + x * value f x
 
+-- p divides the value at r
+unfoldable pub vanishes : ℕ → List ℕ → ℕ → Bool
+unfolding value divides
+vanishes p f r = divides p (value f r)
+
 -- the numbers at which the value is a multiple of pⁿ
 unfoldable pub zeros : List ℕ → ℕ → ℕ → ℕ → Bool
 unfolding value divides

@@ -4,8 +4,8 @@ use crate::modular::quotient;
 use crate::plain;
 use std::num::wrapping_add_u32;
 
-// The mark of the class of a modulo q; h has the c coefficients divided by p^s: 1 if p divides its derivative at none of the members, 0 if at
-// all, 2 if at some.
+// The mark of the class of a modulo q, where h has the c coefficients divided by p^s: 1 if p divides its derivative at none of the members,
+// 0 if at all, 2 if at some.
 pub(crate) fn mark(h: [u32; 65], c: usize, a: u32, q: u32, x: Modulus) -> u32 {
     let members = quotient(x.m, q);
     let mut zeros: u32 = 0;

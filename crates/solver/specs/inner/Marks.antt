@@ -4,9 +4,9 @@ use mathlib.Core.List.{List}
 use Prim.Native.Nat.{ℕ}
 use lib.Dec.{eqb}
 use Rattle.theory.specs.Range.{allBelow}
+use Rattle.theory.specs.Polynomial.{vanishes}
 use Rattle.theory.specs.Class.{Class}
 use Rattle.theory.specs.Mark.{markBy}
-use Rattle.solver.specs.inner.Table.{vanishes}
 
 -- by the value at a
 abbrev pub markAt : ℕ → List ℕ → ℕ → ℕ

@@ -7,7 +7,7 @@ use lib.Dec.{eqb}
 use lib.ListN.{length, getD}
 use Rattle.theory.specs.Range.{passing}
 use Rattle.theory.specs.Prime.{divides}
-use Rattle.theory.specs.Polynomial.{value}
+use Rattle.theory.specs.Polynomial.{value, vanishes}
 use Rattle.theory.specs.Degree.{some, highest, valuation}
 use Rattle.theory.specs.inner.Polynomial.{difference}
 
@@ -34,10 +34,6 @@ pub record Residues (m : ℕ) (g f : List ℕ) : Type 0 where
 -- the smaller of a bound and the valuation of x; an x that is 0 changes nothing
 unfoldable pub lowerOf : ℕ → ℕ → ℕ → ℕ
 lowerOf p best x = elim (eqb x 0) [ true ↦ best | false ↦ min (valuation p x) best ]
-
--- p divides the value at c
-unfoldable pub vanishes : ℕ → List ℕ → ℕ → Bool
-vanishes p f c = divides p (value f c)
 
 -- the digits at which f vanishes modulo p, rising
 abbrev pub zeroDigits : ℕ → List ℕ → List ℕ

@@ -7,8 +7,8 @@ use native.Mathlib.Omega.{arith}
 use lib.ListN.{length}
 use native.Mathlib.Nat.{add-zero}
 use Rattle.theory.specs.Range.{passing}
-use Rattle.theory.specs.Prime.{divides, Prime}
-use Rattle.theory.specs.Polynomial.{value}
+use Rattle.theory.specs.Prime.{Prime}
+use Rattle.theory.specs.Polynomial.{value, vanishes}
 use Rattle.theory.proofs.Numbers.Prime.{divides-dvd}
 use Rattle.theory.proofs.Range.{passing-on, passing-off}
 use Rattle.theory.specs.inner.Polynomial.{coef, taylor, Degree}
@@ -32,19 +32,19 @@ count-sum f (suc k) i = go (count-sum f k (suc i)) (f i) refl
     go ih false e = rw (passing-off f k i e, e) (omega (arith, ih))
 
 -- at a zero the order is not 0
-zero-order : (p : ℕ) (f : List ℕ) (c : ℕ) → AtMostOrder p (one-if (divides p (value f c))) (taylor c f)
-unfolding one-if
-zero-order p f c i h = go (divides p (value f c)) refl i h
+zero-order : (p : ℕ) (f : List ℕ) (c : ℕ) → AtMostOrder p (one-if (vanishes p f c)) (taylor c f)
+unfolding one-if vanishes
+zero-order p f c i h = go (vanishes p f c) refl i h
   where
     constant : coef (taylor c f) 0 ≡ value f c
     constant = sym (value-zero (taylor c f)) ∙ value-taylor c f 0 ∙ ap (value f) (add-zero c)
 
-    go : (b : Bool) → divides p (value f c) ≡ b → (i : ℕ) → ¬ (p ∣ coef (taylor c f) i) → one-if b ≤ i
+    go : (b : Bool) → vanishes p f c ≡ b → (i : ℕ) → ¬ (p ∣ coef (taylor c f) i) → one-if b ≤ i
     go true e zero w = absurd (w (rw constant (divides-dvd p (value f c) e)))
     go true e (suc j) w = omega arith
     go false e j w = omega arith
 
-pub lagrange : (p : ℕ) → Prime p → (d : ℕ) (f : List ℕ) → Degree p f d → length (passing (λ c. divides p (value f c)) p 0) ≤ d
+pub lagrange : (p : ℕ) → Prime p → (d : ℕ) (f : List ℕ) → Degree p f d → length (passing (vanishes p f) p 0) ≤ d
 lagrange p P d f D =
-    rw (count-sum (λ c. divides p (value f c)) p 0)
-    (orders-at-most-degree p P (λ c. one-if (divides p (value f c))) d f D (λ c h. zero-order p f c))
+    rw (count-sum (vanishes p f) p 0)
+    (orders-at-most-degree p P (λ c. one-if (vanishes p f c)) d f D (λ c h. zero-order p f c))

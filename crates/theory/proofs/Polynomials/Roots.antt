@@ -8,7 +8,7 @@ use native.Mathlib.Omega.{arith}
 use lib.IntN.{ℤ}
 use lib.ListN.{length, length-map}
 use Rattle.theory.specs.Lists.{In}
-use Rattle.theory.specs.Polynomial.{reduce, reduced, value, zeros, roots}
+use Rattle.theory.specs.Polynomial.{reduce, reduced, value, vanishes, zeros, roots}
 use Rattle.theory.specs.Degree.{leastValuation, primitive, degreeBound, allZero}
 use Rattle.theory.specs.Class.{class}
 use Rattle.theory.specs.Shortest.{shortest}
@@ -17,7 +17,7 @@ use Rattle.theory.proofs.Lists.Names.{in-nil}
 use Rattle.theory.proofs.Lists.Map.{in-map}
 use Rattle.theory.proofs.Lists.Permutation.{perm-length}
 use Rattle.theory.proofs.Numbers.Power.{pow-pos, pow-one, pow-dvd}
-use Rattle.theory.specs.Prime.{Prime, divides}
+use Rattle.theory.specs.Prime.{Prime}
 use Rattle.theory.proofs.Numbers.Prime.{prime-pos, dvd-divides}
 use Rattle.theory.proofs.Passing.{passing-all}
 use Rattle.theory.proofs.Range.{all-intro}
@@ -72,12 +72,12 @@ module _ (f : List ℤ) (p n : ℕ) (P : Prime p) (some-left : allZero (reduced 
 
   -- where everything is a root, so is every digit of g modulo p: p is at most D
   pub everything-most : ((r : ℕ) → r < p ^ n → roots f p n r ≡ true) → p ≤ degreeBound p (reduced f p n)
-  unfolding roots primitive
+  unfolding roots primitive vanishes
   everything-most all =
       omega (
         arith,
         lagrange p P (degreeBound p w) (primitive p w) (primitive-degree p (P .two) w some-left),
-        passing-all (λ c. divides p (value (primitive p w) c)) p 0 (λ c l b. vanishes c (omega arith)),
+        passing-all (vanishes p (primitive p w)) p 0 (λ c l b. digit c (omega arith)),
       )
     where
       w : List ℕ
@@ -99,8 +99,8 @@ module _ (f : List ℤ) (p n : ℕ) (P : Prime p) (some-left : allZero (reduced 
           let split : s + (n - s) ≡ n = omega (arith, low) in
           ap (zeros w p) (sym split) ∙ zeros-divided w p s (n - s) (prime-pos P) (least-valuation-dvd p (P .two) w)
 
-      vanishes : (c : ℕ) → c < p → divides p (value (primitive p w) c) ≡ true
-      vanishes c l =
+      digit : (c : ℕ) → c < p → vanishes p (primitive p w) c ≡ true
+      digit c l =
           let root : zeros (primitive p w) p (n - s) c ≡ true = sym (ap (λ (S : ℕ → Bool). S c) same) ∙ all c (omega (arith, room)) in
           let one : p ^ 1 ∣ p ^ (n - s) = pow-dvd p (omega (arith, low)) in
           dvd-divides p (value (primitive p w) c)

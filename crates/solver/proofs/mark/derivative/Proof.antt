@@ -33,7 +33,8 @@ loop-again : tie.Need-loop-again Inv-loop μ-loop
 loop-again c =
     let t = c .before .before in
     let a = t .before .args in
-    (omega arith, written-up (t .loop .inv .1) (t .loop .i) _ (omega arith) (term (a .q) (a .p) (t .loop .i) (a .f .now)) (omega arith) refl)
+    let i = t .loop .i in
+    (omega arith, written-up (t .loop .inv .1) i _ (omega arith) (term (a .q) (a .p) i (a .f .now)) (omega arith) refl)
 
 returns : tie.Need-returns Inv-loop μ-loop
 returns c = let w = c .before .loop .inv .1 in record { at = λ i h. w .inside i (omega arith) (omega (arith, w .long)) }

@@ -53,7 +53,9 @@ module _ (c : tie.After-derivative Inv-loop μ-loop) where
 
   mark-at : (x : ℕ) → markFrom (start .args .p) (take len (r ++ drop len (replicate 65 0))) (classOf x)
       ≡ markFrom (start .args .p) (derivative g) (classOf x)
-  mark-at x = rw back (mark-residues (start .args .p) g r (long ∙ ap (λ (k : ℕ). k - 1) (sym (length-primitive (start .args .p) (start .args .f .now)))) residues (classOf x))
+  mark-at x =
+      let same = length-primitive (start .args .p) (start .args .f .now) in
+      rw back (mark-residues (start .args .p) g r (long ∙ ap (λ (k : ℕ). k - 1) (sym same)) residues (classOf x))
 
 derivative-requires : tie.Need-derivative-requires Inv-loop μ-loop
 derivative-requires c κs =

@@ -178,7 +178,8 @@ module _ (c : tie.After-write-marks) where
   abbrev last : tie.Else3
   last = enough (c .before .before .before .before .before)
 
-  marks-stand : c .write-marks .last .1 .1 .1 .0 ≡ filled passes (map (markOf (w (b last)) (p (b last)) (n (b last))) (L (b last))) (given (b last) .marks)
+  marks-stand : c .write-marks .last .1 .1 .1 .0
+      ≡ filled passes (map (markOf (w (b last)) (p (b last)) (n (b last))) (L (b last))) (given (b last) .marks)
   marks-stand = rw (← marks-are last) (c .write-marks .ensures ∙ stands last _ (given (b last) .marks))
 
 slice-reshare-prefix-member-total : tie.Need-slice-reshare-prefix-member-total

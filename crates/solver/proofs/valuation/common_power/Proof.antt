@@ -36,9 +36,8 @@ least-valuation-requires c κs = (c .before .before .before .pre .0, sym (c .bef
 cast-power-2 : tie.Need-cast-power-2
 cast-power-2 c =
     let a = call c in
-    record {
-      fits = omega (arith, c .least-valuation .ensures, exponent-lt (a .args .p) (leastValuation (a .args .p) (a .args .g .now)) 32 (a .pre .0) (fits c));
-    }
+    let low = exponent-lt (a .args .p) (leastValuation (a .args .p) (a .args .g .now)) 32 (a .pre .0) (fits c) in
+    record { fits = omega (arith, c .least-valuation .ensures, low) }
 
 returns-2 : tie.Need-returns-2
 returns-2 c =

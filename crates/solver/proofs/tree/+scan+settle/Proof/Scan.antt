@@ -13,13 +13,13 @@ use lib.Dec.{eqb}
 use lib.ListN.{length, getD, take, drop, replicate}
 use lib.Seq.{length-take-le, take-at}
 use Rattle.theory.specs.Range.{allBelow, passing}
-use Rattle.theory.specs.Polynomial.{zeros}
+use Rattle.theory.specs.Polynomial.{vanishes, zeros}
 use Rattle.theory.proofs.Tests.{and-intro, and-none}
 use Rattle.theory.proofs.Lists.Fill.{take-next, replicate-taken}
 use Rattle.theory.proofs.Passing.{taken-prefix}
 use Rattle.solver.specs.declared.tree.PrimePower.{PrimePower}
 use Rattle.solver.specs.declared.tree.Node.{Node}
-use Rattle.solver.specs.inner.Table.{vanishes, zeroDigits}
+use Rattle.solver.specs.inner.Table.{zeroDigits}
 use Rattle.solver.specs.inner.Recursion.{Primitive, AtNode, Done}
 use Rattle.solver.proofs.Child.{modulus-pos, child-zeros, child-at, child-order}
 use Rattle.solver.proofs.Node.{class-fits}
