@@ -1,4 +1,5 @@
 -- Laws of the numbers that several crates need.
 pub mod Saturated
+pub mod Words
 pub mod Rules
 pub mod Composite

@@ -1,4 +1,4 @@
-// Total functions on machine integers that several crates need: the least divisor, powers and sums of powers, the test of p and n.
+// Total functions on machine integers that several crates need: the least divisor, powers and sums of powers, residues, the test of p and n.
 ghost use mathlib.Core.Path.{_≡_};
 ghost use Prim.Native.Nat.{_-_, _^_, min};
 ghost use Rattle.theory.specs.Prime.{leastDivisor};
@@ -6,6 +6,11 @@ ghost use Rattle.theory.specs.ClassList.{memberTotal};
 ghost use Rattle.numbers.specs.Saturated.{saturated};
 ghost use Rattle.numbers.specs.Modulus.{modulusOf};
 use refusal::Refusal;
+
+mod residue;
+
+pub use residue::centered;
+pub use residue::reduce;
 
 // The smaller of two.
 pub fn smaller(a: usize, b: usize) -> usize

@@ -1,4 +1,4 @@
--- What is proved of the definitions. General laws first, then those of classes, polynomials, maps and stepping.
+-- What is proved of the definitions. General laws first, then those of classes, polynomials, maps, stepping and residues of least size.
 pub mod Tests
 pub mod Lists
 pub mod Numbers
@@ -11,4 +11,5 @@ pub mod Mark
 pub mod RootMap
 pub mod Stepping
 pub mod ThirdDemand
+pub mod Signed
 pub mod Examples

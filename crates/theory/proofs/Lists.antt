@@ -5,6 +5,7 @@ pub mod NoRepeat
 pub mod Permutation
 pub mod Pigeonhole
 pub mod Index
+pub mod Rising
 pub mod Minimum
 pub mod Fill
 pub mod Overwritten

@@ -1,6 +1,6 @@
 -- What a list of classes says of residues: which it holds, those from a point on, and how many its classes have in all.
 use mathlib.Core.Bool.{Bool, false, _||_}
-use mathlib.Core.List.{List, [], _∷_, map}
+use mathlib.Core.List.{List, [], _∷_}
 use Prim.Native.Nat.{ℕ, _+_, _-_, _^_}
 use lib.ListN.{getD}
 use Rattle.theory.specs.Range.{passing}
@@ -9,13 +9,6 @@ use Rattle.theory.specs.Class.{Class, class, isMember}
 -- the class in slot i
 abbrev pub slot : List Class → ℕ → Class
 slot L i = getD L i (class 0 0)
-
--- the residues and the levels of a list
-abbrev pub residuesOf : List Class → List ℕ
-residuesOf = map (λ (c : Class). c .residue)
-
-abbrev pub levelsOf : List Class → List ℕ
-levelsOf = map (λ (c : Class). c .level)
 
 -- r is a member of some class of the list
 unfoldable pub members : ℕ → List Class → ℕ → Bool

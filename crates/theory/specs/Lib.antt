@@ -6,11 +6,15 @@ pub mod Polynomial
 pub mod Degree
 pub mod Class
 pub mod Shortest
+pub mod Centered
+pub mod SignedClass
+pub mod SignedList
 pub mod Mark
 pub mod ClassList
 pub mod RootMap
 pub mod Rival
 pub mod Stepping
 pub mod ThirdDemand
+pub mod SignedDemand
 pub mod Examples
 pub mod inner

@@ -1,7 +1,7 @@
 -- The member numbers of the list's classes add up to the count.
 use mathlib.Core.Path.{_≡_, refl, sym, ap, ap₂, _∙_}
 use mathlib.Core.Bool.{Bool, true, false}
-use mathlib.Core.List.{List, [], _∷_, _++_}
+use mathlib.Core.List.{List, [], _∷_, _++_, map}
 use Prim.Native.Nat.{ℕ, zero, suc, _+_, _-_, _*_, _%_, _^_, _≤_, _<_}
 use native.Mathlib.Nat.{zero-add, zero-mul, suc-mul, mod-eq-of-lt, mul-add-mod-self-right}
 use native.Mathlib.Omega.{arith}
@@ -9,7 +9,7 @@ use lib.ListN.{length, length-append}
 use Rattle.theory.specs.Lists.{In, here, there}
 use Rattle.theory.specs.Range.{passing}
 use Rattle.theory.specs.Class.{Class, IsClass, Member, isMember, memberCount}
-use Rattle.theory.specs.ClassList.{levelsOf, members, memberTotal}
+use Rattle.theory.specs.ClassList.{members, memberTotal}
 use Rattle.theory.specs.Shortest.{shortest, count}
 use Rattle.theory.proofs.Lists.Names.{in-cast}
 use Rattle.theory.proofs.Lists.NoRepeat.{NoRepeat}
@@ -49,13 +49,16 @@ class-size p n hp c k =
     (blocks (isMember p c) (p ^ (c .level)) (c .residue) (k .residue-fits) (member-congruent p c) (congruent-member p c)
     (p ^ (n - c .level)))
 
+abbrev levels : List Class → List ℕ
+levels = map (λ (c : Class). c .level)
+
 -- the classes of the list share no member
 abbrev pub Disjoint : ℕ → ℕ → List Class → Type 0
 Disjoint p n l = (c d : Class) → In c l → In d l → (r : ℕ) → Member p n c r → Member p n d r → c ≡ d
 
 -- the members of classes that share none are counted class by class
 pub disjoint-total : (p n : ℕ) → 0 < p → (l : List Class) → ((c : Class) → In c l → IsClass p n c) → NoRepeat l → Disjoint p n l
-    → length (passing (members p l) (p ^ n) 0) ≡ memberTotal p n (levelsOf l)
+    → length (passing (members p l) (p ^ n) 0) ≡ memberTotal p n (levels l)
 unfolding members memberTotal memberCount
 disjoint-total p n hp [] ok nr apart = ap length (passing-none (λ r. false) (p ^ n) 0 (λ x l b. refl))
 disjoint-total p n hp (c ∷ l) ok nr apart =
@@ -73,17 +76,17 @@ disjoint-total p n hp (c ∷ l) ok nr apart =
 
 -- so they are no more than there are residues
 pub disjoint-most : (p n : ℕ) → 0 < p → (l : List Class) → ((c : Class) → In c l → IsClass p n c) → NoRepeat l → Disjoint p n l
-    → memberTotal p n (levelsOf l) ≤ p ^ n
+    → memberTotal p n (levels l) ≤ p ^ n
 disjoint-most p n hp l ok nr apart = rw (← disjoint-total p n hp l ok nr apart) (passing-most (members p l) (p ^ n) 0)
 
 -- of one class more
-pub total-next : (p n : ℕ) (levels : List ℕ) (t : ℕ) → memberTotal p n (levels ++ (t ∷ [])) ≡ memberTotal p n levels + p ^ (n - t)
+pub total-next : (p n : ℕ) (ts : List ℕ) (t : ℕ) → memberTotal p n (ts ++ (t ∷ [])) ≡ memberTotal p n ts + p ^ (n - t)
 unfolding memberTotal
 total-next p n [] t = omega arith
-total-next p n (s ∷ levels) t = omega (arith, total-next p n levels t)
+total-next p n (s ∷ ts) t = omega (arith, total-next p n ts t)
 
 -- "the root count is the sum of the member numbers"
-pub shortest-total : (S : ℕ → Bool) (p n : ℕ) → 0 < p → memberTotal p n (levelsOf (shortest S p n)) ≡ count S p n
+pub shortest-total : (S : ℕ → Bool) (p n : ℕ) → 0 < p → memberTotal p n (levels (shortest S p n)) ≡ count S p n
 unfolding count
 shortest-total S p n hp =
     sym (disjoint-total p n hp (shortest S p n) (λ c u. listed S p n hp c u .is-class) (shortest-no-repeat S p n)

@@ -30,3 +30,8 @@ injective-on f (a ∷ l) nr x y (here q) (here r) e = q ∙ sym r
 injective-on f (a ∷ l) nr x y (here q) (there w) e = absurd (nr .0 (in-cast (ap f (sym q) ∙ e) (map-in f l y w)))
 injective-on f (a ∷ l) nr x y (there u) (here r) e = absurd (nr .0 (in-cast (ap f (sym r) ∙ sym e) (map-in f l x u)))
 injective-on f (a ∷ l) nr x y (there u) (there w) e = injective-on f l (nr .1) x y u w e
+
+-- where the images are not repeated, neither are the entries
+pub no-repeat-unmap : {A B : Type 0} (f : A → B) (l : List A) → NoRepeat (map f l) → NoRepeat l
+no-repeat-unmap f [] nr = tt
+no-repeat-unmap f (x ∷ l) nr = ((λ u. nr .0 (map-in f l x u)), no-repeat-unmap f l (nr .1))

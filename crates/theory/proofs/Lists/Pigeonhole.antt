@@ -73,3 +73,15 @@ module _ {A B : Type 0} (φ : B → A) (l : List A) (s : List B) (nr : NoRepeat 
       go : (r : List A) → Permutation (map φ s) (l ++ r) → length r ≡ 0 → Permutation (map φ s) l
       go [] d q = perm-trans d (perm-append-nil l)
       go (x ∷ r) d q = absurd (omega arith)
+
+-- two lists without repeats that have the same entries
+pub perm-of-entries : {A : Type 0} (l m : List A) → NoRepeat l → NoRepeat m → ((x : A) → In x l → In x m) → ((x : A) → In x m → In x l)
+    → Permutation m l
+perm-of-entries {A} l m nl nm f g =
+    let (r, d) = with-rest l m nl f in
+    let (s, e) = with-rest m l nm g in
+    go r d (omega (arith, perm-length d, perm-length e, length-append l r, length-append m s))
+  where
+    go : (r : List A) → Permutation m (l ++ r) → length r ≡ 0 → Permutation m l
+    go [] d q = perm-trans d (perm-append-nil l)
+    go (x ∷ r) d q = absurd (omega arith)

@@ -19,22 +19,23 @@ use Rattle.theory.proofs.Lists.Permutation.{perm-length}
 use Rattle.theory.proofs.Numbers.Power.{pow-pos, pow-one, pow-dvd}
 use Rattle.theory.specs.Prime.{Prime}
 use Rattle.theory.proofs.Numbers.Prime.{prime-pos, dvd-divides}
+use Rattle.theory.proofs.Numbers.Reduction.{reduce-lt}
 use Rattle.theory.proofs.Passing.{passing-all}
 use Rattle.theory.proofs.Range.{all-intro}
-use Rattle.theory.proofs.Classes.Rising.{rising-perm, shortest-rising}
+use Rattle.theory.proofs.Lists.Rising.{rising-perm}
+use Rattle.theory.proofs.Classes.Rising.{Earlier, earlier-strict, shortest-rising}
 use Rattle.theory.proofs.Classes.Tree.{tree-whole, tree-perm}
 use Rattle.theory.proofs.Polynomials.Zeros.{zeros-all, zeros-divided, zero-dvd}
 use Rattle.theory.proofs.Polynomials.Bound.{tree-at-most}
 use Rattle.theory.proofs.Polynomials.Degree.{degree-bound-degree, degree-bound-lt, least-valuation-dvd, least-valuation-lt}
 use Rattle.theory.proofs.Polynomials.Lagrange.{lagrange}
 use Rattle.theory.proofs.Polynomials.Primitive.{primitive-degree}
-use Rattle.theory.proofs.Polynomials.Signed.{reduce-lt}
 
 -- a set that holds every residue is listed as the one class of everything
 pub everything : (S : ℕ → Bool) (p n : ℕ) → 2 ≤ p → ((r : ℕ) → r < p ^ n → S r ≡ true) → shortest S p n ≡ class 0 0 ∷ []
 everything S p n two all =
     let t : tree S p n ≡ class 0 0 ∷ [] = tree-whole S p n (all-intro S (p ^ n) all) in
-    sym (rising-perm (class 0 0 ∷ []) (shortest S p n) ((λ d u. absurd (in-nil u)), tt) (shortest-rising S p n)
+    sym (rising-perm Earlier earlier-strict (class 0 0 ∷ []) (shortest S p n) ((λ d u. absurd (in-nil u)), tt) (shortest-rising S p n)
     (rw t at (tree-perm p (omega arith) two S n)))
 
 -- reduced coefficients are below pⁿ

@@ -1,0 +1,6 @@
+-- Residues of least size: the numbers, the classes, and the list that shows `shortest` with them.
+pub mod Centered
+pub mod Classes
+pub mod List
+pub mod Entries
+pub mod Demand
