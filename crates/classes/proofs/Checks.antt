@@ -6,9 +6,10 @@ use Prim.Native.Nat.{ℕ, _^_, _≤_, _<_, min}
 use native.Mathlib.Omega.{arith}
 use borrow.Author.Tests.{ltb-false, lt-ltb, le-ltb, not-false, eqb-true}
 use lib.Dec.{ltb, eqb}
+use lib.IntN.{ℤ}
 use lib.ListN.{length}
 use Rattle.theory.specs.Range.{least}
-use Rattle.theory.specs.Class.{Class}
+use Rattle.theory.specs.SignedClass.{SignedClass}
 use Rattle.theory.proofs.Tests.{and-left, and-right}
 use Rattle.theory.proofs.Range.{before-least}
 use Rattle.refusal.specs.declared.Refusal.{Refusal}
@@ -21,7 +22,6 @@ use Rattle.numbers.specs.inner.Usable.{Usable}
 use Rattle.numbers.proofs.Rules.{accepted-means, refused-means, passes-usable, refused-leads, usable-leaves}
 use Rattle.classes.specs.Rule7.{classesOf, faultAt, firstFault, rule7}
 use Rattle.classes.specs.Checked.{givenRules, checkedOf}
-use Rattle.classes.specs.inner.Search.{FaultlessTo}
 use Rattle.classes.specs.inner.Usable.{Faultless, UsableList}
 use Rattle.classes.proofs.Entries.{classes-same-length}
 use Rattle.classes.proofs.Faults.{faultless-list, faultless-few}
@@ -38,30 +38,27 @@ same-three-lengths a b c e =
     (eqb-true a b (and-left (eqb a b) (eqb a c) both), eqb-true a c (and-right (eqb a b) (eqb a c) both))
 
 -- where the least of k tests is past the end, no test holds
-pub none-below : (f : ℕ → Bool) (k : ℕ) (r : Refusal) → ltb (least f k 0) k ≡ false → (j : ℕ) → j < k → f j ≡ false
-none-below f k r e j h = before-least f k 0 j (omega arith) (omega (arith, ltb-false (least f k 0) k e))
+pub none-below : (f : ℕ → Bool) (k : ℕ) → ltb (least f k 0) k ≡ false → (j : ℕ) → j < k → f j ≡ false
+none-below f k e j h = before-least f k 0 j (omega arith) (omega (arith, ltb-false (least f k 0) k e))
 
 -- a list that rule 7 passes has no fault
-rule7-faultless : (p n : ℕ) (L : List Class) → rule7 p n L ≡ passes → FaultlessTo p n L (length L)
+rule7-faultless : (p n : ℕ) (L : List SignedClass) → rule7 p n L ≡ passes → (j : ℕ) → j < length L → faultAt p n L j ≡ false
 unfolding rule7 firstFault
 rule7-faultless p n L e =
-    record {
-      faultless = none-below (faultAt p n L) (length L) (Entry (firstFault p n L))
-          (rule-passes (ltb (firstFault p n L) (length L)) (Entry (firstFault p n L)) e);
-    }
+    none-below (faultAt p n L) (length L) (rule-passes (ltb (firstFault p n L) (length L)) (Entry (firstFault p n L)) e)
 
-rule7-refuses : (p n : ℕ) (L : List Class) → firstFault p n L < length L → rule7 p n L ≡ refuses (Entry (firstFault p n L))
+rule7-refuses : (p n : ℕ) (L : List SignedClass) → firstFault p n L < length L → rule7 p n L ≡ refuses (Entry (firstFault p n L))
 unfolding rule7
 rule7-refuses p n L h = rw (lt-ltb (firstFault p n L) (length L) h)
 
-rule7-passes : (p n : ℕ) (L : List Class) → length L ≤ firstFault p n L → rule7 p n L ≡ passes
+rule7-passes : (p n : ℕ) (L : List SignedClass) → length L ≤ firstFault p n L → rule7 p n L ≡ passes
 unfolding rule7
 rule7-passes p n L h = rw (le-ltb (firstFault p n L) (length L) h)
 
 -- The checked list
 
-module _ (p n : ℕ) (residues levels : List ℕ) where
-  abbrev L : List Class
+module _ (p n : ℕ) (residues : List ℤ) (levels : List ℕ) where
+  abbrev L : List SignedClass
   L = classesOf residues levels
 
   abbrev own : List Verdict

@@ -1,174 +1,102 @@
--- What a list has whose first entries have no fault.
+-- What a list has that rule 7 passes.
 use mathlib.Core.Path.{_≡_, refl, sym, ap, _∙_}
-use mathlib.Core.Logic.{_⊎_, inl, inr}
 use mathlib.Core.Bool.{Bool, true, false, not, _||_}
-use mathlib.Core.List.{List}
-use Prim.Native.Nat.{ℕ, zero, suc, _+_, _-_, _^_, _≤_, _<_}
-use native.Mathlib.Nat.{eq-or-lt-of-le, pow-le-pow-right}
+use mathlib.Core.List.{List, map}
+use Prim.Native.Nat.{ℕ, _%_, _^_, _≤_, _<_, min}
 use native.Mathlib.Decide.{decLt}
 use native.Mathlib.Omega.{arith}
-use borrow.Author.Count.{below-more}
-use borrow.Author.Tests.{ltb-false, leb-false, not-true, not-false}
-use lib.Dec.{leb}
-use lib.ListN.{length, getD}
+use borrow.Author.Tests.{eq-eqb}
+use lib.IntN.{ℤ, pos}
+use lib.ListN.{length, length-map, getD}
 use Rattle.theory.specs.Lists.{In}
-use Rattle.theory.specs.Range.{allBelow}
 use Rattle.theory.specs.Class.{Class, class, IsClass, Member, share}
-use Rattle.theory.specs.ClassList.{slot, levelsOf, memberTotal}
+use Rattle.theory.specs.ClassList.{slot, memberTotal}
+use Rattle.theory.specs.SignedClass.{SignedClass, signedClass, IsSignedClass, natural, naturals, signedSlot, levelsOf}
 use Rattle.theory.proofs.Tests.{contradiction, or-fails-left, or-fails-right}
 use Rattle.theory.proofs.Lists.Index.{index-of, no-repeat-at}
+use Rattle.theory.proofs.Lists.Map.{in-map}
 use Rattle.theory.proofs.Classes.Share.{common-share}
-use Rattle.theory.proofs.Classes.Sum.{disjoint-most}
-use Rattle.theory.proofs.Range.{all-elim}
-use Rattle.classes.specs.Rule7.{classesOf, levelAbove, residueOutside, notAbove, sharedEarlier, faultAt, firstFault}
-use Rattle.classes.specs.inner.Search.{FaultlessTo}
-use Rattle.classes.specs.inner.Usable.{Faultless}
-use Rattle.classes.proofs.Entries.{classes-slot, classes-same-length}
+use Rattle.theory.proofs.Classes.Sum.{disjoint-most, total-least}
+use Rattle.theory.proofs.Signed.Classes.{natural-class, natural-levels}
+use Rattle.theory.proofs.Range.{none-found}
 use Rattle.theory.proofs.Least.{least-is}
+use Rattle.classes.specs.Rule7.{classesOf, sharedEarlier, faultAt}
+use Rattle.classes.specs.inner.Search.{unusableAt, usableTo}
+use Rattle.classes.specs.inner.Usable.{Faultless}
+use Rattle.classes.proofs.Entries.{classes-slot, classes-same-length, natural-slot}
+use Rattle.classes.proofs.Usables.{usable-class, usable-rises, usable-is}
 
--- One entry without a fault
-
-module _ (p n : ℕ) (L : List Class) (i : ℕ) (e : faultAt p n L i ≡ false) where
-  tests : ((levelAbove n (slot L i) || residueOutside p (slot L i) || notAbove L i) ≡ false) × (sharedEarlier p L i ≡ false)
-  unfolding faultAt
-  tests =
-      let a = levelAbove n (slot L i) || residueOutside p (slot L i) || notAbove L i in
-      (or-fails-left a (sharedEarlier p L i) e, or-fails-right a (sharedEarlier p L i) e)
-
-  -- it is a class
-  pub entry-class : IsClass p n (slot L i)
-  unfolding levelAbove residueOutside
-  entry-class =
-      let a = levelAbove n (slot L i) in
-      let b = residueOutside p (slot L i) in
-      let ab : (a || b) ≡ false = or-fails-left (a || b) (notAbove L i) (tests .0) in
-      record {
-        level-fits = ltb-false n (slot L i .level) (or-fails-left a b ab);
-        residue-fits = leb-false (p ^ (slot L i .level)) (slot L i .residue) (or-fails-right a b ab);
-      }
-
-  -- it is above the entry before
-  pub entry-above : notAbove L i ≡ false
-  entry-above = or-fails-right (levelAbove n (slot L i) || residueOutside p (slot L i)) (notAbove L i) (tests .0)
-
-  -- it shares no member with an earlier one
-  pub entry-apart : (j : ℕ) → j < i → share p (slot L j) (slot L i) ≡ false
-  unfolding sharedEarlier
-  entry-apart j h =
-      let f : ℕ → Bool = λ k. not (share p (slot L k) (slot L i)) in
-      not-true (share p (slot L j) (slot L i)) (all-elim f i j (not-false (allBelow f i) (tests .1)) h)
-
-pub above-before : (L : List Class) (i : ℕ) → notAbove L (suc i) ≡ false → slot L i .residue < slot L (suc i) .residue
-unfolding notAbove
-above-before L i e = leb-false (slot L (suc i) .residue) (slot L i .residue) e
-
-pub not-above-at : (L : List Class) (i : ℕ) → 0 < i → notAbove L i ≡ leb (slot L i .residue) (slot L (i - 1) .residue)
-unfolding notAbove
-not-above-at L zero h = absurd (omega arith)
-not-above-at L (suc i) h = let e : suc i - 1 ≡ i = omega arith in rw e
-
-pub not-above-first : (L : List Class) (i : ℕ) → i ≡ 0 → notAbove L i ≡ false
-unfolding notAbove
-not-above-first L zero e = refl
-not-above-first L (suc i) e = absurd (omega arith)
-
--- Numbers that rise from each to the next
-
-pub rising-steps : (f : ℕ → ℕ) (m : ℕ) → ((k : ℕ) → suc k < m → f k < f (suc k)) → (j k : ℕ) → j < k → k < m → f j < f k
-rising-steps f m step j zero h l = absurd (omega arith)
-rising-steps f m step j (suc k) h l = go (rising-steps f m step j k) (eq-or-lt-of-le h)
-  where
-    go : (j < k → k < m → f j < f k) → (suc j ≡ suc k) ⊎ (suc j < suc k) → f j < f (suc k)
-    go ih (inl q) = let s : j ≡ k = omega arith in rw s (step k l)
-    go ih (inr q) = omega (arith, ih (omega arith) (omega arith), step k l)
-
-pub rising-at-least : (f : ℕ → ℕ) (m : ℕ) → ((j k : ℕ) → j < k → k < m → f j < f k) → (k : ℕ) → k < m → k ≤ f k
-rising-at-least f m rises zero l = omega arith
-rising-at-least f m rises (suc k) l = omega (arith, rising-at-least f m rises k (omega arith), rises k (suc k) (omega arith) l)
-
--- The first i entries
-
-module _ (p n : ℕ) (L : List Class) (i : ℕ) (F : FaultlessTo p n L i) where
-  -- their residues rise
-  pub entries-rise : (j k : ℕ) → j < k → k < i → slot L j .residue < slot L k .residue
-  entries-rise =
-      rising-steps (λ k. slot L k .residue) i (λ k l. above-before L k (entry-above p n L (suc k) (F .faultless (suc k) l)))
-
-  -- where entry i is above the one before, it is above all earlier ones
-  pub entries-below : notAbove L i ≡ false → (j : ℕ) → j < i → slot L j .residue < slot L i .residue
-  entries-below e j h = rising-steps (λ k. slot L k .residue) (suc i) step j i h (omega arith)
-    where
-      step : (k : ℕ) → suc k < suc i → slot L k .residue < slot L (suc k) .residue
-      step k l = go (eq-or-lt-of-le l)
-        where
-          go : (suc (suc k) ≡ suc i) ⊎ (suc (suc k) < suc i) → slot L k .residue < slot L (suc k) .residue
-          go (inl q) = let s : i ≡ suc k = omega arith in above-before L k (rw s at e)
-          go (inr q) = above-before L k (entry-above p n L (suc k) (F .faultless (suc k) (omega arith)))
-
-pub faultless-next : (p n : ℕ) (L : List Class) (i : ℕ) → FaultlessTo p n L i → faultAt p n L i ≡ false → FaultlessTo p n L (i + 1)
-faultless-next p n L i F e = record { faultless = below-more (λ (j : ℕ). faultAt p n L j ≡ false) i (F .faultless) e }
-
--- the first fault is at i, or there is none and i is the length
-pub first-fault-is : (p n : ℕ) (L : List Class) (i : ℕ) → i ≤ length L → FaultlessTo p n L i → (i < length L → faultAt p n L i ≡ true)
-    → firstFault p n L ≡ i
-unfolding firstFault
-first-fault-is p n L i h F at =
-    least-is (faultAt p n L) (length L) 0 i (omega arith) (omega arith) (λ j l u. F .faultless j u) (λ l. at (omega arith))
-
--- The whole list
-
--- a list without a fault has all that
-pub faultless-list : (p n : ℕ) (L : List Class) → FaultlessTo p n L (length L) → Faultless p n L
-faultless-list p n L F =
+-- a list none of whose entries has a fault
+pub faultless-list : (p n : ℕ) (L : List SignedClass) → ((i : ℕ) → i < length L → faultAt p n L i ≡ false) → Faultless p n L
+unfolding faultAt unusableAt sharedEarlier
+faultless-list p n L none =
     record {
-      class-at = λ i h. entry-class p n L i (F .faultless i h);
-      rises = entries-rise p n L (length L) F;
-      apart = λ i j h l. entry-apart p n L j (F .faultless j l) i h;
+      class-at = λ i h. usable-class p n L i (usable i h);
+      rises = λ i j l h. usable-rises p n L i j l (omega (arith, all));
+      apart = λ i j l h.
+          none-found (λ k. share p (natural p (signedSlot L k)) (natural p (signedSlot L j))) j
+          (or-fails-right (unusableAt p n L j) (sharedEarlier p L j) (none j h)) i l;
     }
-
-pub faultless-in : (p n : ℕ) (L : List Class) → Faultless p n L → (c : Class) → In c L → IsClass p n c
-faultless-in p n L F c u = let (i, h, e) = index-of L (class 0 0) c u in rw e (F .class-at i h)
-
--- there are at most pⁿ entries, one for each residue
-pub faultless-few : (p n : ℕ) (L : List Class) → 0 < p → Faultless p n L → length L ≤ p ^ n
-faultless-few p n L pos F = go (decLt 0 (length L))
   where
-    go : Dec (0 < length L) → length L ≤ p ^ n
-    go (no h) = omega arith
-    go (yes h) =
-        let i = length L - 1 in
-        let l : i < length L = omega arith in
-        omega (
-          arith,
-          rising-at-least (λ k. slot L k .residue) (length L) (F .rises) i l,
-          F .class-at i l .residue-fits,
-          pow-le-pow-right pos {i = slot L i .level} {j = n} (F .class-at i l .level-fits),
-        )
+    usable : (i : ℕ) → i < length L → unusableAt p n L i ≡ false
+    usable i h = or-fails-left (unusableAt p n L i) (sharedEarlier p L i) (none i h)
+
+    all : usableTo p n L ≡ length L
+    all = usable-is p n L (length L) (omega arith) usable (λ h. absurd (omega arith))
+
+share-self : (p : ℕ) (c : Class) → share p c c ≡ true
+unfolding share
+share-self p c = eq-eqb (c .residue % p ^ min (c .level) (c .level)) (c .residue % p ^ min (c .level) (c .level)) refl
+
+module _ (p n : ℕ) (L : List SignedClass) (hp : 0 < p) (F : Faultless p n L) where
+  abbrev N : List Class
+  N = naturals p L
+
+  long : length N ≡ length L
+  long = length-map L (natural p)
+
+  -- its classes, as 01's
+  pub faultless-in : (c : Class) → In c (naturals p L) → IsClass p n c
+  faultless-in c u =
+      let (d, v, e) = in-map (natural p) L c u in
+      let (i, h, f) = index-of L (signedClass (pos 0) 0) d v in
+      rw (e, f) (natural-class p n hp (signedSlot L i) (F .class-at i h .level-fits))
+
+  share-at : (i j : ℕ) → i < j → j < length L → share p (slot N i) (slot N j) ≡ false
+  share-at i j h l = rw (natural-slot p L i (omega arith), natural-slot p L j l) (F .apart i j h l)
+
+  distinct : (i j : ℕ) → i < j → j < length N → slot N i ≡ slot N j → ⊥
+  distinct i j h l e = contradiction (ap (λ (c : Class). share p c (slot N j)) e ∙ share-self p (slot N j)) (share-at i j h (omega (arith, long)))
+
+  clash : (i j : ℕ) → i < j → j < length N → (r : ℕ) → Member p n (slot N i) r → Member p n (slot N j) r → ⊥
+  clash i j h l r u v =
+      contradiction (common-share p n hp (slot N i) (slot N j) (record { residue = r; of-first = u; of-second = v }))
+      (share-at i j h (omega (arith, long)))
+
+  apart : (c d : Class) → In c N → In d N → (r : ℕ) → Member p n c r → Member p n d r → c ≡ d
+  apart c d u v r mc md =
+      let (i, hi, ei) = index-of N (class 0 0) c u in
+      let (j, hj, ej) = index-of N (class 0 0) d v in
+      ei ∙ go i j hi hj (rw ei at mc) (rw ej at md) (decLt i j) (decLt j i) ∙ sym ej
+    where
+      go : (i j : ℕ) → i < length N → j < length N → Member p n (slot N i) r → Member p n (slot N j) r → Dec (i < j) → Dec (j < i)
+          → slot N i ≡ slot N j
+      go i j hi hj mi mj (yes h) w = absurd (clash i j h hj r mi mj)
+      go i j hi hj mi mj (no h) (yes k) = absurd (clash j i k hi r mj mi)
+      go i j hi hj mi mj (no h) (no k) = let e : i ≡ j = omega arith in ap (slot N) e
+
+  -- its classes share no member, so together they have at most pⁿ
+  pub faultless-most : memberTotal p n (levelsOf L) ≤ p ^ n
+  faultless-most =
+      rw (natural-levels p L) at (disjoint-most p n hp N faultless-in (no-repeat-at N (class 0 0) distinct) apart)
+
+  -- and there are at most pⁿ of them
+  pub faultless-few : length L ≤ p ^ n
+  faultless-few = omega (arith, faultless-most, total-least p n hp (levelsOf L), length-map L (λ (c : SignedClass). c .level))
 
 -- entry i of a lent list, as its residue and its level
-pub faultless-entry : (p n : ℕ) (residues levels : List ℕ) → length residues ≡ length levels → Faultless p n (classesOf residues levels)
-    → (i : ℕ) → i < length residues → IsClass p n (class (getD residues i 0) (getD levels i 0))
+pub faultless-entry : (p n : ℕ) (residues : List ℤ) (levels : List ℕ) → length residues ≡ length levels
+    → Faultless p n (classesOf residues levels) → (i : ℕ) → i < length residues
+    → IsSignedClass p n (signedClass (getD residues i (pos 0)) (getD levels i 0))
 faultless-entry p n residues levels same F i h =
     rw (classes-slot residues levels i h (omega arith)) at (F .class-at i (omega (arith, classes-same-length residues levels same)))
-
--- its classes share no member, so together they have at most pⁿ
-pub faultless-most : (p n : ℕ) (L : List Class) → 0 < p → Faultless p n L → memberTotal p n (levelsOf L) ≤ p ^ n
-faultless-most p n L pos F =
-    disjoint-most p n pos L (faultless-in p n L F)
-    (no-repeat-at L (class 0 0) (λ i j h l e. omega (arith, F .rises i j h l, ap (λ (c : Class). c .residue) e))) apart
-  where
-    clash : (i j : ℕ) → i < j → j < length L → (r : ℕ) → Member p n (slot L i) r → Member p n (slot L j) r → ⊥
-    clash i j h l r u v =
-        contradiction (common-share p n pos (slot L i) (slot L j) (record { residue = r; of-first = u; of-second = v })) (F .apart i j h l)
-
-    apart : (c d : Class) → In c L → In d L → (r : ℕ) → Member p n c r → Member p n d r → c ≡ d
-    apart c d u v r mc md =
-        let (i, hi, ei) = index-of L (class 0 0) c u in
-        let (j, hj, ej) = index-of L (class 0 0) d v in
-        ei ∙ go i j hi hj (rw ei at mc) (rw ej at md) (decLt i j) (decLt j i) ∙ sym ej
-      where
-        go : (i j : ℕ) → i < length L → j < length L → Member p n (slot L i) r → Member p n (slot L j) r → Dec (i < j) → Dec (j < i)
-            → slot L i ≡ slot L j
-        go i j hi hj mi mj (yes h) w = absurd (clash i j h hj r mi mj)
-        go i j hi hj mi mj (no h) (yes k) = absurd (clash j i k hi r mj mi)
-        go i j hi hj mi mj (no h) (no k) = let e : i ≡ j = omega arith in ap (slot L) e

@@ -1,10 +1,12 @@
 -- Laws of class lists.
 pub mod Entries
-pub mod Searching
-pub mod Faults
 pub mod Sharing
+pub mod Usables
+pub mod Searching
+pub mod Looking
+pub mod Faults
 pub mod Checks
 pub mod MarkedChecks
-pub mod ShortestAccepted
+pub mod ListAccepted
 pub mod NextMember
 pub mod NextAnswers

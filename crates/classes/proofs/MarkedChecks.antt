@@ -1,14 +1,15 @@
 -- The same for a list with marks.
 use mathlib.Core.Path.{_≡_, sym, ap, ap₂, _∙_}
 use mathlib.Core.List.{List, [], _∷_, _++_}
-use mathlib.Core.Bool.{_||_}
+use mathlib.Core.Bool.{false, _||_}
 use Prim.Native.Nat.{ℕ, _^_, _≤_, _<_, min}
 use native.Mathlib.Omega.{arith}
 use borrow.Author.Tests.{lt-ltb, le-ltb}
 use lib.Dec.{ltb}
+use lib.IntN.{ℤ}
 use lib.ListN.{length}
 use Rattle.theory.specs.Range.{least}
-use Rattle.theory.specs.Class.{Class}
+use Rattle.theory.specs.SignedClass.{SignedClass}
 use Rattle.theory.proofs.Tests.{or-fails-left}
 use Rattle.theory.proofs.Least.{least-or}
 use Rattle.refusal.specs.declared.Refusal.{Refusal}
@@ -21,43 +22,40 @@ use Rattle.numbers.specs.inner.Usable.{Usable}
 use Rattle.numbers.proofs.Rules.{accepted-means, refused-means, passes-usable, refused-leads, usable-leaves}
 use Rattle.classes.specs.Rule7.{classesOf, faultAt, markAbove, firstFault, firstMarkedFault, rule7Marked}
 use Rattle.classes.specs.Checked.{markedRules, markedCheckedOf}
-use Rattle.classes.specs.inner.Search.{FaultlessTo, firstHighMark}
+use Rattle.classes.specs.inner.Search.{firstHighMark}
 use Rattle.classes.specs.inner.Usable.{Faultless, UsableMarked}
 use Rattle.classes.proofs.Entries.{classes-same-length}
 use Rattle.classes.proofs.Faults.{faultless-list, faultless-few}
 use Rattle.classes.proofs.Checks.{same-three-lengths, none-below}
 
 -- the first entry with a fault or a high mark is the first of the two
-first-marked : (p n : ℕ) (L : List Class) (marks : List ℕ) → length L ≡ length marks
+first-marked : (p n : ℕ) (L : List SignedClass) (marks : List ℕ) → length L ≡ length marks
     → firstMarkedFault p n L marks ≡ min (firstFault p n L) (firstHighMark marks)
 unfolding firstMarkedFault firstFault firstHighMark
 first-marked p n L marks e =
     least-or (faultAt p n L) (markAbove marks) (length L) 0
     ∙ ap (λ (k : ℕ). min (least (faultAt p n L) (length L) 0) (least (markAbove marks) k 0)) e
 
-marked-faultless : (p n : ℕ) (L : List Class) (marks : List ℕ) → rule7Marked p n L marks ≡ passes → FaultlessTo p n L (length L)
+marked-faultless : (p n : ℕ) (L : List SignedClass) (marks : List ℕ) → rule7Marked p n L marks ≡ passes
+    → (j : ℕ) → j < length L → faultAt p n L j ≡ false
 unfolding rule7Marked firstMarkedFault
-marked-faultless p n L marks e =
+marked-faultless p n L marks e j h =
     let first = firstMarkedFault p n L marks in
-    record {
-      faultless = λ j h.
-          or-fails-left (faultAt p n L j) (markAbove marks j)
-          (none-below (λ i. faultAt p n L i || markAbove marks i) (length L) (Entry first)
-          (rule-passes (ltb first (length L)) (Entry first) e) j h);
-    }
+    or-fails-left (faultAt p n L j) (markAbove marks j)
+    (none-below (λ i. faultAt p n L i || markAbove marks i) (length L) (rule-passes (ltb first (length L)) (Entry first) e) j h)
 
-marked-refuses : (p n : ℕ) (L : List Class) (marks : List ℕ) → firstMarkedFault p n L marks < length L
+marked-refuses : (p n : ℕ) (L : List SignedClass) (marks : List ℕ) → firstMarkedFault p n L marks < length L
     → rule7Marked p n L marks ≡ refuses (Entry (firstMarkedFault p n L marks))
 unfolding rule7Marked
 marked-refuses p n L marks h = rw (lt-ltb (firstMarkedFault p n L marks) (length L) h)
 
-marked-passes-7 : (p n : ℕ) (L : List Class) (marks : List ℕ) → length L ≤ firstMarkedFault p n L marks
+marked-passes-7 : (p n : ℕ) (L : List SignedClass) (marks : List ℕ) → length L ≤ firstMarkedFault p n L marks
     → rule7Marked p n L marks ≡ passes
 unfolding rule7Marked
 marked-passes-7 p n L marks h = rw (le-ltb (firstMarkedFault p n L marks) (length L) h)
 
-module _ (p n : ℕ) (residues levels marks : List ℕ) where
-  abbrev L : List Class
+module _ (p n : ℕ) (residues : List ℤ) (levels marks : List ℕ) where
+  abbrev L : List SignedClass
   L = classesOf residues levels
 
   abbrev six : Verdict

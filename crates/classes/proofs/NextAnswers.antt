@@ -6,10 +6,11 @@ use Prim.Native.Nat.{ℕ, _-_, _^_, _≤_, _<_}
 use native.Mathlib.Decide.{decLt}
 use native.Mathlib.Omega.{arith}
 use borrow.Author.Tests.{lt-ltb, le-ltb}
+use lib.IntN.{ℤ}
 use Rattle.theory.specs.Range.{least, passing}
-use Rattle.theory.specs.Class.{Class}
-use Rattle.theory.specs.ClassList.{residuesOf, levelsOf, members, from}
-use Rattle.theory.specs.Shortest.{shortest}
+use Rattle.theory.specs.ClassList.{members, from}
+use Rattle.theory.specs.SignedClass.{SignedClass, naturals, residuesOf, levelsOf}
+use Rattle.theory.specs.SignedList.{signedList}
 use Rattle.theory.specs.Stepping.{firstOf, nextIn}
 use Rattle.theory.proofs.Range.{before-least, passing-none}
 use Rattle.refusal.specs.declared.Refusal.{Refusal}
@@ -25,10 +26,10 @@ use Rattle.classes.specs.Next.{nextVerdict, nextOr, nextOf, answerOf}
 use Rattle.classes.proofs.Entries.{classes-of-parts}
 use Rattle.classes.specs.inner.Usable.{UsableList}
 use Rattle.classes.proofs.Checks.{checked-accepted, checked-refused, checked-leads}
-use Rattle.classes.proofs.ShortestAccepted.{shortest-accepted}
+use Rattle.classes.proofs.ListAccepted.{list-accepted}
 use Rattle.theory.proofs.Least.{passing-first}
 
-module _ (p n : ℕ) (residues levels : List ℕ) (point : ℕ) where
+module _ (p n : ℕ) (residues : List ℤ) (levels : List ℕ) (point : ℕ) where
   -- the list is refused
   pub next-refused : (r : Refusal) → checkedOf p n residues levels ≡ NotAccepted r → nextOf p n residues levels point ≡ Refused r
   unfolding nextOf nextVerdict
@@ -37,7 +38,7 @@ module _ (p n : ℕ) (residues levels : List ℕ) (point : ℕ) where
   module _ (m : ℕ) (C : UsableList p n residues levels m) where
     -- 01's least member from the point on, and pⁿ where there is none
     abbrev first : ℕ
-    first = least (members p (classesOf residues levels)) (m - point) point
+    first = least (members p (naturals p (classesOf residues levels))) (m - point) point
 
     verdict-past : p ^ n ≤ point → nextVerdict p n residues levels point ≡ refuses Point
     unfolding nextVerdict
@@ -59,7 +60,7 @@ module _ (p n : ℕ) (residues levels : List ℕ) (point : ℕ) where
     unfolding nextOf from
     next-none h r q l =
         let e : p ^ n ≡ m = sym (C .modulus .power) in
-        let S = members p (classesOf residues levels) in
+        let S = members p (naturals p (classesOf residues levels)) in
         let empty : passing S (p ^ n - point) point ≡ [] =
         rw e (passing-none S (m - point) point (λ x low b. before-least S (m - point) point x low (omega arith))) in
         rw (verdict-passes (omega arith), empty)
@@ -67,18 +68,18 @@ module _ (p n : ℕ) (residues levels : List ℕ) (point : ℕ) where
     -- the first of those left
     pub next-found : point < m → (r : ℕ) → r ≡ first → r < m → nextOf p n residues levels point ≡ Root r
     unfolding nextOf from
-    next-found h r q l = go (passing-first (members p (classesOf residues levels)) (m - point) point (omega arith))
+    next-found h r q l = go (passing-first (members p (naturals p (classesOf residues levels))) (m - point) point (omega arith))
       where
-        go : (rest : List ℕ) × (passing (members p (classesOf residues levels)) (m - point) point ≡ first ∷ rest)
+        go : (rest : List ℕ) × (passing (members p (naturals p (classesOf residues levels))) (m - point) point ≡ first ∷ rest)
             → nextOf p n residues levels point ≡ Root r
         go (rest, w) =
             let e : p ^ n ≡ m = sym (C .modulus .power) in
-            let starts : passing (members p (classesOf residues levels)) (p ^ n - point) point ≡ first ∷ rest = rw e w in
+            let starts : passing (members p (naturals p (classesOf residues levels))) (p ^ n - point) point ≡ first ∷ rest = rw e w in
             rw (verdict-passes (omega arith), starts) (ap (λ (x : ℕ). Root x) (sym q))
 
   -- on an accepted list next answers as the theory's `nextIn`
   pub next-answers : (m : ℕ) → UsableList p n residues levels m
-      → answerOf (nextOf p n residues levels point) ≡ nextIn (members p (classesOf residues levels)) p n point
+      → answerOf (nextOf p n residues levels point) ≡ nextIn (members p (naturals p (classesOf residues levels))) p n point
   unfolding nextOf nextIn
   next-answers m C = go (decLt point (p ^ n))
     where
@@ -86,18 +87,18 @@ module _ (p n : ℕ) (residues levels : List ℕ) (point : ℕ) where
       first-of [] = refl
       first-of (r ∷ rs) = refl
 
-      go : Dec (point < p ^ n) → answerOf (nextOf p n residues levels point) ≡ nextIn (members p (classesOf residues levels)) p n point
+      go : Dec (point < p ^ n) → answerOf (nextOf p n residues levels point) ≡ nextIn (members p (naturals p (classesOf residues levels))) p n point
       go (yes h) =
           rw (verdict-passes m C h, lt-ltb point (p ^ n) h, nextIn)
-          (first-of (from (members p (classesOf residues levels)) p n point))
+          (first-of (from (members p (naturals p (classesOf residues levels))) p n point))
       go (no h) = let l : p ^ n ≤ point = omega arith in rw (verdict-past m C l, le-ltb point (p ^ n) l, nextIn)
 
--- on the shortest list of S, as the solver fills it
-pub shortest-answers : (S : ℕ → Bool) (p n m : ℕ) → Usable p n m → (point : ℕ)
-    → answerOf (nextOf p n (residuesOf (shortest S p n)) (levelsOf (shortest S p n)) point)
-    ≡ nextIn (members p (shortest S p n)) p n point
-shortest-answers S p n m U point =
-    let residues = residuesOf (shortest S p n) in
-    let levels = levelsOf (shortest S p n) in
-    next-answers p n residues levels point m (checked-accepted p n residues levels m (shortest-accepted S p n m U))
-    ∙ ap (λ (l : List Class). nextIn (members p l) p n point) (classes-of-parts (shortest S p n))
+-- on the list of S, as the solver fills it
+pub list-answers : (S : ℕ → Bool) (p n m : ℕ) → Usable p n m → (point : ℕ)
+    → answerOf (nextOf p n (residuesOf (signedList S p n)) (levelsOf (signedList S p n)) point)
+    ≡ nextIn (members p (naturals p (signedList S p n))) p n point
+list-answers S p n m U point =
+    let residues = residuesOf (signedList S p n) in
+    let levels = levelsOf (signedList S p n) in
+    next-answers p n residues levels point m (checked-accepted p n residues levels m (list-accepted S p n m U))
+    ∙ ap (λ (l : List SignedClass). nextIn (members p (naturals p l)) p n point) (classes-of-parts (signedList S p n))

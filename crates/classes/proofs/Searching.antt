@@ -1,128 +1,224 @@
--- Looking a class up among the first entries of a list that rises.
+-- The search finds the first fault: within the first m entries, which have no fault of their own, every overlap is a fault at the later of two
+-- entries, and the first entry that shares a member with an earlier one is among them.
 use mathlib.Core.Path.{_≡_, refl, sym, ap, _∙_}
-use mathlib.Core.Bool.{Bool, true, false, _&&_}
+use mathlib.Core.Logic.{_⊎_, inl, inr}
+use mathlib.Core.Bool.{Bool, true, false, not, _||_}
 use mathlib.Core.List.{List}
-use Prim.Native.Nat.{ℕ, suc, _+_, _%_, _^_, _≤_, _<_}
-use native.Mathlib.Decide.{ℕ-discrete, decLt}
+use Prim.Native.Nat.{ℕ, zero, suc, _≤_, _<_, min, max}
+use native.Mathlib.Nat.{eq-or-lt-of-le}
+use native.Mathlib.Decide.{decLt}
 use native.Mathlib.Omega.{arith}
-use borrow.Author.Tests.{leb-true, leb-false, le-leb, lt-leb, eq-eqb, ne-eqb}
-use lib.Dec.{eqb, leb}
-use lib.ListN.{getD}
-use Rattle.theory.specs.Range.{least}
+use lib.ListN.{length}
+use Rattle.theory.specs.Range.{allBelow, least}
+use Rattle.theory.specs.Class.{share}
+use Rattle.theory.specs.SignedClass.{SignedClass, natural, signedSlot}
 use Rattle.theory.proofs.Tests.{contradiction}
-use Rattle.theory.proofs.Range.{some-passes, none-passes, none-found, before-least, least-found}
-use Rattle.classes.specs.inner.Search.{RisingTo, firstNotBelow, listedBefore, containedBefore}
-use Rattle.theory.proofs.Least.{least-is}
+use Rattle.theory.proofs.Range.{some-passes, none-passes, least-passes, before-least, least-found}
+use Rattle.theory.proofs.Least.{least-or}
+use Rattle.theory.proofs.Numbers.Integers.{up, down, less-is}
+use Rattle.classes.specs.Rule7.{sharedEarlier, faultAt, firstFault}
+use Rattle.classes.specs.inner.Search.{unusableAt, usableTo, sameClass, indexOf, around, overlap, leastValue, searchedTo}
+use Rattle.classes.proofs.Sharing.{same-equal, equal-same, shared-around, shared-equal, around-shares, share-sym}
+use Rattle.classes.proofs.Usables.{usable-class, usable-fits, usable-before, usable-rises}
 
--- Bisection
+-- The least value of a function
 
-module _ (l : List ℕ) (i : ℕ) (R : RisingTo l i) (x middle : ℕ) (h : middle < i) where
-  -- what is not above the middle is below x
-  pub lower-half : getD l middle 0 < x → (k : ℕ) → k < middle + 1 → getD l k 0 < x
-  lower-half b k u = go (ℕ-discrete k middle)
-    where
-      go : Dec (k ≡ middle) → getD l k 0 < x
-      go (yes e) = rw e b
-      go (no e) = omega (arith, R .rises k middle (omega arith) h)
+pub value-start : (f : ℕ → ℕ) (k d : ℕ) → leastValue f k d ≤ d
+unfolding leastValue
+value-start f zero d = omega arith
+value-start f (suc k) d = omega (arith, value-start f k d)
 
-  -- what is not below the middle is not below x
-  pub upper-half : x ≤ getD l middle 0 → (k : ℕ) → middle ≤ k → k < i → x ≤ getD l k 0
-  upper-half b k low u = go (ℕ-discrete k middle)
-    where
-      go : Dec (k ≡ middle) → x ≤ getD l k 0
-      go (yes e) = rw e b
-      go (no e) = omega (arith, R .rises middle k (omega arith) u)
+value-le : (f : ℕ → ℕ) (k d i : ℕ) → i < k → leastValue f k d ≤ f i
+unfolding leastValue
+value-le f zero d i h = absurd (omega arith)
+value-le f (suc k) d i h = go (value-le f k d i) (eq-or-lt-of-le h)
+  where
+    go : (i < k → leastValue f k d ≤ f i) → (suc i ≡ suc k) ⊎ (suc i < suc k) → min (f k) (leastValue f k d) ≤ f i
+    go ih (inl q) = let s : i ≡ k = omega arith in rw s (omega arith)
+    go ih (inr l) = omega (arith, ih (omega arith))
 
--- the place from what stands before and after it
-pub place-is : (l : List ℕ) (i x j : ℕ) → j ≤ i → ((k : ℕ) → k < j → getD l k 0 < x) → ((k : ℕ) → j ≤ k → k < i → x ≤ getD l k 0)
-    → firstNotBelow l i x ≡ j
-unfolding firstNotBelow
-place-is l i x j h below above =
-    least-is (λ k. leb x (getD l k 0)) i 0 j (omega arith) (omega arith) (λ k low u. lt-leb x (getD l k 0) (below k u))
-    (λ u. le-leb x (getD l j 0) (above j (omega arith) (omega arith)))
+value-bound : (f : ℕ → ℕ) (k d b : ℕ) → b ≤ d → ((i : ℕ) → i < k → b ≤ f i) → b ≤ leastValue f k d
+unfolding leastValue
+value-bound f zero d b h g = h
+value-bound f (suc k) d b h g = omega (arith, g k (omega arith), value-bound f k d b h (λ i l. g i (omega arith)))
 
--- One class
+pub value-none : (f : ℕ → ℕ) (d : ℕ) → d ≡ leastValue f 0 d
+unfolding leastValue
+value-none f d = refl
 
-module _ (residues levels : List ℕ) (i a t : ℕ) where
-  pub not-listed : ((k : ℕ) → k < i → getD residues k 0 ≡ a → ⊥) → listedBefore residues levels i a t ≡ false
-  unfolding listedBefore
-  not-listed h =
-      none-passes (λ k. eqb (getD residues k 0) a && eqb (getD levels k 0) t) i (λ k l. rw (ne-eqb (getD residues k 0) a (h k l)))
+pub value-next : (f : ℕ → ℕ) (k d : ℕ) → min (f k) (leastValue f k d) ≡ leastValue f (suc k) d
+unfolding leastValue
+value-next f k d = refl
 
-  before-place : (k : ℕ) → k < firstNotBelow residues i a → getD residues k 0 < a
-  unfolding firstNotBelow
-  before-place k h = leb-false a (getD residues k 0) (before-least (λ j. leb a (getD residues j 0)) i 0 k (omega arith) h)
+-- where some number passes, one is found
+some-found : (f : ℕ → Bool) (k : ℕ) → not (allBelow (λ j. not (f j)) k) ≡ true → (i : ℕ) × (i < k) × (f i ≡ true)
+some-found f k e = go (decLt (least f k 0) k)
+  where
+    go : Dec (least f k 0 < k) → (i : ℕ) × (i < k) × (f i ≡ true)
+    go (yes h) = (least f k 0, h, least-found f k 0 (omega arith))
+    go (no h) = absurd (contradiction e (none-passes f k (λ i l. before-least f k 0 i (omega arith) (omega arith))))
 
-  at-place : firstNotBelow residues i a < i → a ≤ getD residues (firstNotBelow residues i a) 0
-  unfolding firstNotBelow
-  at-place h =
-      let f : ℕ → Bool = λ j. leb a (getD residues j 0) in
-      leb-true a (getD residues (least f i 0) 0) (least-found f i 0 (omega arith))
+level-of : (p : ℕ) (c d : SignedClass) (s : ℕ) → c ≡ around p d s → c .level ≡ s
+unfolding around
+level-of p c d s e = λ i. (e i) .level
 
-  -- all the first i are below a
-  pub place-past : (j : ℕ) → j ≡ firstNotBelow residues i a → i ≤ j → listedBefore residues levels i a t ≡ false
-  place-past j q h = not-listed (λ k l e. omega (arith, before-place k (omega arith)))
+module _ (p n : ℕ) (L : List SignedClass) where
+  abbrev m : ℕ
+  m = usableTo p n L
 
-  module _ (R : RisingTo residues i) where
-    -- the first that is not below a is above it
-    pub place-above : (j : ℕ) → j ≡ firstNotBelow residues i a → j < i → (getD residues j 0 ≡ a → ⊥)
-        → listedBefore residues levels i a t ≡ false
-    place-above j q h ne = not-listed (λ k l e. go k l e (decLt k j))
+  -- two entries share a member
+  abbrev Shares : ℕ → ℕ → Type 0
+  Shares i j = share p (natural p (signedSlot L i)) (natural p (signedSlot L j)) ≡ true
+
+  -- the first entry that shares a member with an earlier one
+  first : ℕ
+  first = least (sharedEarlier p L) (length L) 0
+
+  first-le : (x : ℕ) → x < length L → sharedEarlier p L x ≡ true → first ≤ x
+  unfolding first
+  first-le x h e = least-passes (sharedEarlier p L) (length L) 0 x (omega arith) (omega arith) e .1
+
+  fault-split : firstFault p n L ≡ min m first
+  unfolding firstFault faultAt usableTo unusableAt first
+  fault-split = least-or (unusableAt p n L) (sharedEarlier p L) (length L) 0
+
+  -- a shared member is a fault at the later entry
+  later-shares : (i j : ℕ) → j < i → i < length L → Shares j i → first ≤ i
+  unfolding sharedEarlier
+  later-shares i j h l e =
+      first-le i l (some-passes (λ k. share p (natural p (signedSlot L k)) (natural p (signedSlot L i))) i j h e)
+
+  -- The index of a class
+
+  index-le : (c : SignedClass) (j : ℕ) → j < m → signedSlot L j ≡ c → indexOf L m c ≤ j
+  unfolding indexOf
+  index-le c j h e =
+      least-passes (λ k. sameClass (signedSlot L k) c) m 0 j (omega arith) (omega arith) (equal-same (signedSlot L j) c e) .1
+
+  index-found : (c : SignedClass) → indexOf L m c < m → signedSlot L (indexOf L m c) ≡ c
+  unfolding indexOf
+  index-found c h =
+      same-equal (signedSlot L (indexOf L m c)) c (least-found (λ k. sameClass (signedSlot L k) c) m 0 (omega arith))
+
+  module _ (hp : 0 < p) where
+    -- every overlap is at a fault, or past the first m entries
+    overlap-sound : (i s : ℕ) → i < m → s < signedSlot L i .level → min m first ≤ overlap p L m i s
+    unfolding overlap
+    overlap-sound i s hi hs = go (decLt j m)
       where
-        above : a < getD residues j 0
-        above = let least : a ≤ getD residues j 0 = rw q (at-place (omega arith)) in omega arith
+        c : SignedClass
+        c = around p (signedSlot L i) s
 
-        go : (k : ℕ) → k < i → getD residues k 0 ≡ a → Dec (k < j) → ⊥
-        go k l e (yes u) = omega (arith, before-place k (omega arith))
-        go k l e (no u) = omega (arith, upper-half residues i R (suc a) j h above k (omega arith) l)
+        j : ℕ
+        j = indexOf L m c
 
-    -- entry j alone has residue a
-    pub listed-at : (j : ℕ) → j < i → getD residues j 0 ≡ a → listedBefore residues levels i a t ≡ eqb (getD levels j 0) t
-    unfolding listedBefore
-    listed-at j h e = go (eqb (getD levels j 0) t) refl
-      where
-        f : ℕ → Bool
-        f k = eqb (getD residues k 0) a && eqb (getD levels k 0) t
-
-        other : eqb (getD levels j 0) t ≡ false → (k : ℕ) → k < i → Dec (k ≡ j) → f k ≡ false
-        other q k l (yes s) = rw (s, eq-eqb (getD residues j 0) a e) q
-        other q k l (no s) = rw (ne-eqb (getD residues k 0) a (λ d. differ d (decLt k j)))
+        hit : j < m → first ≤ max i j
+        hit hj = pick (decLt j i) (decLt i j)
           where
-            differ : getD residues k 0 ≡ a → Dec (k < j) → ⊥
-            differ d (yes u) = omega (arith, R .rises k j u h)
-            differ d (no u) = omega (arith, R .rises j k (omega arith) l)
+            found : signedSlot L j ≡ around p (signedSlot L i) s
+            found = index-found c hj
 
-        go : (b : Bool) → eqb (getD levels j 0) t ≡ b → listedBefore residues levels i a t ≡ eqb (getD levels j 0) t
-        go true q = some-passes f i j h (rw (eq-eqb (getD residues j 0) a e) q) ∙ sym q
-        go false q = none-passes f i (λ k l. other q k l (ℕ-discrete k j)) ∙ sym q
+            level : signedSlot L j .level ≡ s
+            level = level-of p (signedSlot L j) (signedSlot L i) s found
 
--- The classes at each level
+            shares : Shares j i
+            shares = around-shares p n hp (signedSlot L j) (signedSlot L i) (omega (arith, level)) (rw level found)
 
-module _ (p : ℕ) (residues levels : List ℕ) (i a : ℕ) where
-  -- what was found with q for p^s
-  pub listed-level : (s q : ℕ) (x b : Bool) → q ≡ p ^ s → x ≡ listedBefore residues levels i (a % q) s → x ≡ b
-      → listedBefore residues levels i (a % p ^ s) s ≡ b
-  listed-level s q x b e f g = ap (λ (y : ℕ). listedBefore residues levels i (a % y) s) (sym e) ∙ sym f ∙ g
+            pick : Dec (j < i) → Dec (i < j) → first ≤ max i j
+            pick (yes l) w = omega (arith, later-shares i j l (omega (arith, usable-fits p n L)) shares)
+            pick (no l) (yes k) =
+                omega (arith, later-shares j i k (omega (arith, usable-fits p n L)) (share-sym p hp (signedSlot L j) (signedSlot L i) shares))
+            pick (no l) (no k) =
+                let q : j ≡ i = omega arith in
+                absurd (omega (arith, ap (λ (x : ℕ). signedSlot L x .level) q, level))
 
-  module _ (t : ℕ) where
-    -- one level has it
-    pub contained-at : (s : ℕ) → s < t → listedBefore residues levels i (a % p ^ s) s ≡ true
-        → containedBefore p residues levels i a t ≡ true
-    unfolding containedBefore
-    contained-at s h e = some-passes (λ k. listedBefore residues levels i (a % p ^ k) k) t s h e
+        go : Dec (j < m) → min m first ≤ max i j
+        go (yes h) = omega (arith, hit h)
+        go (no h) = omega arith
 
-    -- no level has it
-    pub contained-nowhere : ((s : ℕ) → s < t → listedBefore residues levels i (a % p ^ s) s ≡ false)
-        → containedBefore p residues levels i a t ≡ false
-    unfolding containedBefore
-    contained-nowhere h = none-passes (λ k. listedBefore residues levels i (a % p ^ k) k) t h
+    searched-sound : (k : ℕ) → k ≤ m → min m first ≤ searchedTo p L m k
+    unfolding searchedTo
+    searched-sound zero h = omega arith
+    searched-sound (suc k) h =
+        value-bound (overlap p L m k) (signedSlot L k .level) (searchedTo p L m k) (min m first) (searched-sound k (omega arith))
+        (λ s l. overlap-sound k s (omega arith) l)
 
-    -- where no level has one, no earlier entry is the class of a at its level
-    pub contained-none : containedBefore p residues levels i a t ≡ false → (k : ℕ) → k < i → getD levels k 0 < t
-        → (getD residues k 0 ≡ a % p ^ getD levels k 0 → ⊥)
-    unfolding containedBefore listedBefore
-    contained-none e k h l q =
-        let s = getD levels k 0 in
-        let f : ℕ → Bool = λ j. eqb (getD residues j 0) (a % p ^ s) && eqb (getD levels j 0) s in
-        contradiction (rw (eq-eqb (getD residues k 0) (a % p ^ s) q) (eq-eqb s s refl))
-        (none-found f i (none-found (λ u. listedBefore residues levels i (a % p ^ u) u) t e s l) k h)
+    searched-start : (k : ℕ) → searchedTo p L m k ≤ m
+    unfolding searchedTo
+    searched-start zero = omega arith
+    searched-start (suc k) =
+        omega (arith, searched-start k, value-start (overlap p L m k) (signedSlot L k .level) (searchedTo p L m k))
+
+    searched-le : (k i s : ℕ) → i < k → s < signedSlot L i .level → searchedTo p L m k ≤ overlap p L m i s
+    unfolding searchedTo
+    searched-le zero i s h l = absurd (omega arith)
+    searched-le (suc k) i s h l = go (searched-le k i s) (eq-or-lt-of-le h)
+      where
+        go : (i < k → s < signedSlot L i .level → searchedTo p L m k ≤ overlap p L m i s) → (suc i ≡ suc k) ⊎ (suc i < suc k)
+            → searchedTo p L m (suc k) ≤ overlap p L m i s
+        go ih (inl q) =
+            let e : i ≡ k = omega arith in
+            rw e (value-le (overlap p L m k) (signedSlot L k .level) (searchedTo p L m k) s (rw e at l))
+        go ih (inr q) =
+            omega (arith, ih (omega arith) l, value-start (overlap p L m k) (signedSlot L k .level) (searchedTo p L m k))
+
+    -- entry i lies in entry j, and neither is after x
+    inner-found : (i j x : ℕ) → i < m → j < m → i ≤ x → j ≤ x → signedSlot L j .level < signedSlot L i .level → Shares j i
+        → searchedTo p L m m ≤ x
+    unfolding overlap
+    inner-found i j x hi hj li lj l e =
+        let s = signedSlot L j .level in
+        let c = around p (signedSlot L i) s in
+        let q : signedSlot L j ≡ c =
+        shared-around p n hp (signedSlot L j) (signedSlot L i) (usable-class p n L j (usable-before p n L j hj)) (omega arith) e in
+        let near : indexOf L m c ≤ j = index-le c j hj q in
+        omega (arith, near, searched-le m i s hi l)
+
+    -- the first entry that shares a member is found
+    searched-complete : first < m → searchedTo p L m m ≤ first
+    unfolding first sharedEarlier
+    searched-complete h =
+        go (some-found (λ j. share p (natural p (signedSlot L j)) (natural p (signedSlot L first))) first
+        (least-found (sharedEarlier p L) (length L) 0 (omega (arith, usable-fits p n L))))
+      where
+        go : (j : ℕ) × (j < first) × Shares j first → searchedTo p L m m ≤ first
+        go (j, l, e) = pick (decLt (signedSlot L j .level) (signedSlot L first .level)) (decLt (signedSlot L first .level) (signedSlot L j .level))
+          where
+            hj : j < m
+            hj = omega arith
+
+            pick : Dec (signedSlot L j .level < signedSlot L first .level) → Dec (signedSlot L first .level < signedSlot L j .level)
+                → searchedTo p L m m ≤ first
+            pick (yes a) b = inner-found first j first h hj (omega arith) (omega arith) a e
+            pick (no a) (yes b) =
+                inner-found j first first hj h (omega arith) (omega arith) b (share-sym p hp (signedSlot L j) (signedSlot L first) e)
+            pick (no a) (no b) =
+                let same : signedSlot L j .residue ≡ signedSlot L first .residue =
+                shared-equal p n hp (signedSlot L j) (signedSlot L first) (usable-class p n L j (usable-before p n L j hj))
+                (usable-class p n L first (usable-before p n L first h)) (omega arith) e in
+                absurd (omega (
+                  arith,
+                  less-is (signedSlot L j .residue) (signedSlot L first .residue) (usable-rises p n L j first l h),
+                  ap up same,
+                  ap down same,
+                ))
+
+    pub searched-is : searchedTo p L (usableTo p n L) (usableTo p n L) ≡ firstFault p n L
+    searched-is = go (decLt first m)
+      where
+        low : min m first ≤ searchedTo p L m m
+        low = searched-sound m (omega arith)
+
+        go : Dec (first < m) → searchedTo p L m m ≡ firstFault p n L
+        go (yes h) = rw fault-split (omega (arith, low, searched-complete h))
+        go (no h) = rw fault-split (omega (arith, low, searched-start m))
+
+-- one entry more, and none
+pub searched-none : (p : ℕ) (L : List SignedClass) (m : ℕ) → m ≡ searchedTo p L m 0
+unfolding searchedTo
+searched-none p L m = refl
+
+pub searched-next : (p : ℕ) (L : List SignedClass) (m i : ℕ)
+    → leastValue (overlap p L m i) (signedSlot L i .level) (searchedTo p L m i) ≡ searchedTo p L m (suc i)
+unfolding searchedTo
+searched-next p L m i = refl

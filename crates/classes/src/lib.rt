@@ -7,12 +7,14 @@ use refusal::Refusal;
 
 mod fault;
 mod next;
+mod overlap;
+mod usable;
 
 pub use next::Next;
 pub use next::next_root;
 
 // Whether p, n and a list of classes are usable: pⁿ, or the refusal. Rules 4, 14, 5, 6 and 7.
-pub fn check_list(p: u32, n: u32, residues: &[u32], levels: &[u8]) -> Modulus
+pub fn check_list(p: u32, n: u32, residues: &[i32], levels: &[u8]) -> Modulus
     ensures { λ r. ⌜ r ≡ checkedOf p n (now (residues .entry)) (now (levels .entry)) ⌝ }
 {
     match numbers::check_modulus(p, n) {
@@ -22,7 +24,7 @@ pub fn check_list(p: u32, n: u32, residues: &[u32], levels: &[u8]) -> Modulus
 }
 
 // Rules 6 and 7.
-fn check_entries(p: u32, n: u32, m: u64, residues: &[u32], levels: &[u8]) -> Modulus
+fn check_entries(p: u32, n: u32, m: u64, residues: &[i32], levels: &[u8]) -> Modulus
     requires { ⌜ Usable p n m ⌝ }
     ensures { λ r. ⌜ r ≡ checkedOf p n (now (residues .entry)) (now (levels .entry)) ⌝ }
 {
@@ -37,7 +39,7 @@ fn check_entries(p: u32, n: u32, m: u64, residues: &[u32], levels: &[u8]) -> Mod
 }
 
 // The same for a list with marks, of which none may be above 2.
-pub fn check_marked_list(p: u32, n: u32, residues: &[u32], levels: &[u8], marks: &[u8]) -> Modulus
+pub fn check_marked_list(p: u32, n: u32, residues: &[i32], levels: &[u8], marks: &[u8]) -> Modulus
     ensures { λ r. ⌜ r ≡ markedCheckedOf p n (now (residues .entry)) (now (levels .entry)) (now (marks .entry)) ⌝ }
 {
     match numbers::check_modulus(p, n) {
@@ -51,7 +53,7 @@ fn check_marked_entries(
     p: u32,
     n: u32,
     m: u64,
-    residues: &[u32],
+    residues: &[i32],
     levels: &[u8],
     marks: &[u8],
 ) -> Modulus

@@ -3,6 +3,7 @@ ghost use mathlib.Core.Path.{_≡_};
 ghost use Prim.Native.Nat.{_-_, _≤_, _<_};
 ghost use Rattle.theory.specs.Range.{least as leastOf};
 ghost use Rattle.theory.specs.ClassList.{members};
+ghost use Rattle.theory.specs.SignedClass.{naturals};
 ghost use Rattle.classes.specs.Rule7.{classesOf};
 ghost use Rattle.classes.specs.inner.Usable.{UsableList};
 ghost use Rattle.classes.specs.Next.{nextOf};
@@ -19,7 +20,7 @@ pub enum Next {
 }
 
 // The least member at or after the point of the classes that the lists hold, or none. Rules 4, 14, 5, 6, 7 and 8.
-pub fn next_root(p: u32, n: u32, residues: &[u32], levels: &[u8], point: u32) -> Next
+pub fn next_root(p: u32, n: u32, residues: &[i32], levels: &[u8], point: u32) -> Next
     ensures { λ r. ⌜ r ≡ nextOf p n (now (residues .entry)) (now (levels .entry)) point ⌝ }
 {
     match crate::check_list(p, n, residues, levels) {
@@ -29,7 +30,7 @@ pub fn next_root(p: u32, n: u32, residues: &[u32], levels: &[u8], point: u32) ->
 }
 
 // Rule 8, and the answer for an accepted list.
-fn next_member(p: u32, n: u32, m: u64, residues: &[u32], levels: &[u8], point: u32) -> Next
+fn next_member(p: u32, n: u32, m: u64, residues: &[i32], levels: &[u8], point: u32) -> Next
     requires { ⌜ UsableList p n (now residues) (now levels) m ⌝ }
     ensures { λ r. ⌜ r ≡ nextOf p n (now (residues .entry)) (now (levels .entry)) point ⌝ }
 {
@@ -44,15 +45,16 @@ fn next_member(p: u32, n: u32, m: u64, residues: &[u32], levels: &[u8], point: u
 }
 
 // The least member from the point on, and pⁿ where there is none.
-fn least_member(p: u32, n: u32, m: u64, residues: &[u32], levels: &[u8], point: u64) -> u64
+fn least_member(p: u32, n: u32, m: u64, residues: &[i32], levels: &[u8], point: u64) -> u64
     requires { ⌜ UsableList p n (now residues) (now levels) m × (point ≤ m) ⌝ }
-    ensures { λ r. ⌜ r ≡ leastOf (members p (classesOf (now (residues .entry)) (now (levels .entry)))) (m - point) point ⌝ }
+    ensures { λ r. ⌜ r ≡ leastOf (members p (naturals p (classesOf (now (residues .entry)) (now (levels .entry))))) (m - point) point ⌝ }
 {
     let mut best = m;
     let mut i: usize = 0;
     while i < residues.len() {
         let q = numbers::power(p, levels[i] as u32);
-        let r = member_from(residues[i] as u64, q, point);
+        let a = numbers::reduce(residues[i] as i64, q);
+        let r = member_from(a, q, point);
         if r < best {
             best = r;
         }

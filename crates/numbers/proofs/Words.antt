@@ -6,10 +6,12 @@ use native.Mathlib.Omega.{arith}
 use borrow.Author.Tests.{le-ltb}
 use lib.IntN.{ℤ, pos, negsuc}
 use lib.Signed.{mag, ltZ}
-use mir.Syntax.{w64}
+use mir.Syntax.{Width, w32, w64}
 use mir.Val.{SFits, toZ, ofZ}
 use mir.ValLaws.{toZ-pos, toZ-ofZ}
+use Rattle.theory.specs.Centered.{isCentered}
 use Rattle.theory.proofs.Numbers.Integers.{up, down, Is}
+use Rattle.theory.proofs.Signed.Centered.{in-range}
 
 -- x is s k, and a word of 64 bits reads as k
 pub record Read (s : ℕ → ℤ) (x : ℤ) (word : ℕ) : Type 0 where
@@ -36,3 +38,27 @@ pub difference-fits : (z : ℤ) (a b : ℕ) → Is z a b → a < 2 ^ 63 → b < 
 unfolding up down
 difference-fits (pos k) a b e ha hb = record { sfits = omega arith }
 difference-fits (negsuc k) a b e ha hb = record { sfits = omega arith }
+
+-- two numbers are equal if their words are
+pub word-equal : (w : Width) (y z : ℤ) → SFits w y → SFits w z → ofZ w y ≡ ofZ w z → y ≡ z
+word-equal w y z fy fz e = sym (toZ-ofZ w y fy) ∙ ap (toZ w) e ∙ toZ-ofZ w z fz
+
+-- A number of 32 bits, signed, as one of 64
+
+pub wide-fits : (z : ℤ) → SFits w32 z → SFits w64 z
+wide-fits z f = record { sfits = omega (arith, f .sfits) }
+
+pub wide-read : (z : ℤ) → SFits w32 z → toZ w64 (ofZ w64 (toZ w32 (ofZ w32 z))) ≡ z
+wide-read z f = ap (λ (x : ℤ). toZ w64 (ofZ w64 x)) (toZ-ofZ w32 z f) ∙ toZ-ofZ w64 z (wide-fits z f)
+
+-- its parts are at most 2^31
+pub narrow-parts : (z : ℤ) → SFits w32 z → (up z ≤ 2147483648) × (down z ≤ 2147483648)
+unfolding up down
+narrow-parts (pos k) f = (omega (arith, f .sfits), omega arith)
+narrow-parts (negsuc k) f = (omega arith, omega (arith, f .sfits))
+
+-- a residue of least size modulo a q of 32 bits has 32 bits
+pub narrow-fits : (q : ℕ) (z : ℤ) → q ≤ 4294967295 → isCentered q z ≡ true → SFits w32 z
+unfolding up down
+narrow-fits q (pos k) h e = record { sfits = omega (arith, in-range q (pos k) e .fits) }
+narrow-fits q (negsuc k) h e = record { sfits = omega (arith, in-range q (negsuc k) e .above) }

@@ -13,17 +13,17 @@ smaller-requires c κs = search needs
 
 returns : tie.Need-returns
 returns c =
-    let b = c .before .before .before .before in
+    let b = c .before .before .before in
     let a = b .args in
     ap (λ (x : ℕ). Refused (Lengths x)) (c .smaller .ensures)
     ∙ sym (checked-6 (a .p) (a .n) (a .residues .now) (a .levels .now) (b .pre) (c .before .if1 .taken))
 
 first-fault-requires : tie.Need-first-fault-requires
-first-fault-requires c κs = let b = c .before .before .before in (b .pre .prime .two, b .pre .within, c .if1 .left)
+first-fault-requires c κs = let b = c .before .before in (b .pre .prime .two, b .pre .within, c .if1 .left)
 
 returns-2 : tie.Need-returns-2
 returns-2 c =
-    let b = c .before .before .before .before .before in
+    let b = c .before .before .before .before in
     let a = b .args in
     let f = c .before .first-fault in
     sym (checked-7 (a .p) (a .n) (a .residues .now) (a .levels .now) (b .pre) (c .before .before .if1 .left) (f .result) (f .ensures)
@@ -31,7 +31,7 @@ returns-2 c =
 
 returns-3 : tie.Need-returns-3
 returns-3 c =
-    let b = c .before .before .before .before .before in
+    let b = c .before .before .before .before in
     let a = b .args in
     let f = c .before .first-fault in
     sym (checked-passes (a .p) (a .n) (a .residues .now) (a .levels .now) (b .pre) (c .before .before .if1 .left) (f .result)

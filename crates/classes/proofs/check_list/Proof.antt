@@ -14,7 +14,7 @@ enum-known-m c = search needs
 
 check-entries-requires : tie.Need-check-entries-requires
 check-entries-requires c κs =
-    let a = c .before .before .before .before .before .before .args in
+    let a = c .before .before .before .before .before .args in
     let m = c .before .m .given in
     usable (a .p) (a .n) (m .0 .0) (sym (c .before .before .before .check-modulus .ensures) ∙ m .1)
 
@@ -26,7 +26,7 @@ returns c = search needs
 
 returns-2 : tie.Need-returns-2
 returns-2 c =
-    let a = c .before .before .before .before .before .before .args in
+    let a = c .before .before .before .before .before .args in
     let r = c .before .r .given in
     sym (checked-modulus (a .p) (a .n) (a .residues .now) (a .levels .now) (r .0 .0)
     (sym (c .before .before .before .check-modulus .ensures) ∙ r .1))

@@ -16,10 +16,10 @@ use Rattle.classes.proofs.check_marked_entries.Tie as tie
 
 -- past the test of the marks' length
 same-marks : (c : tie.Else2)
-    → length (c .before .before .before .before .before .args .residues .now)
-    ≡ length (c .before .before .before .before .before .args .marks .now)
+    → length (c .before .before .before .before .args .residues .now)
+    ≡ length (c .before .before .before .before .args .marks .now)
 same-marks c =
-    let a = c .before .before .before .before .before .args in
+    let a = c .before .before .before .before .args in
     let k = length (a .residues .now) in
     eqb-true k (length (a .marks .now)) (not-false (eqb k (length (a .marks .now))) (c .if2 .left))
 
@@ -31,7 +31,7 @@ smaller-requires-2 c κs = search needs
 
 returns : tie.Need-returns
 returns c =
-    let b = c .before .before .before .before .before .before in
+    let b = c .before .before .before .before .before in
     let a = b .args in
     let k = length (a .residues .now) in
     let differ : k ≡ length (a .marks .now) → not (eqb k (length (a .marks .now))) ≡ false =
@@ -43,7 +43,7 @@ returns c =
     ⊎-elim (λ w. w .taken d) (λ w. contradiction (w .1 .taken) (differ f)) (c .before .before .if1 .came)))
 
 first-fault-requires : tie.Need-first-fault-requires
-first-fault-requires c κs = let b = c .before .before .before .before .before in (b .pre .prime .two, b .pre .within, c .before .if1 .left)
+first-fault-requires c κs = let b = c .before .before .before .before in (b .pre .prime .two, b .pre .within, c .before .if1 .left)
 
 first-high-mark-requires : tie.Need-first-high-mark-requires
 first-high-mark-requires c κs = search needs
@@ -53,7 +53,7 @@ smaller-requires-3 c κs = search needs
 
 returns-2 : tie.Need-returns-2
 returns-2 c =
-    let b = c .before .before .before .before .before .before .before .before .before in
+    let b = c .before .before .before .before .before .before .before .before in
     let a = b .args in
     let l = c .before .smaller3 in
     let i = c .before .before .before .first-fault in
@@ -64,7 +64,7 @@ returns-2 c =
 
 returns-3 : tie.Need-returns-3
 returns-3 c =
-    let b = c .before .before .before .before .before .before .before .before .before in
+    let b = c .before .before .before .before .before .before .before .before in
     let a = b .args in
     let l = c .before .smaller3 in
     let i = c .before .before .before .first-fault in

@@ -13,7 +13,7 @@ use Rattle.theory.specs.ClassList.{members, memberTotal}
 use Rattle.theory.specs.Shortest.{shortest, count}
 use Rattle.theory.proofs.Lists.Names.{in-cast}
 use Rattle.theory.proofs.Lists.NoRepeat.{NoRepeat}
-use Rattle.theory.proofs.Numbers.Power.{pow-split}
+use Rattle.theory.proofs.Numbers.Power.{pow-pos, pow-split}
 use Rattle.theory.proofs.Range.{passing-same, passing-none, passing-one, passing-or, passing-append}
 use Rattle.theory.proofs.Passing.{passing-most}
 use Rattle.theory.proofs.Classes.Members.{member-congruent, congruent-member, members-sound, rival-members}
@@ -78,6 +78,12 @@ disjoint-total p n hp (c ∷ l) ok nr apart =
 pub disjoint-most : (p n : ℕ) → 0 < p → (l : List Class) → ((c : Class) → In c l → IsClass p n c) → NoRepeat l → Disjoint p n l
     → memberTotal p n (levels l) ≤ p ^ n
 disjoint-most p n hp l ok nr apart = rw (← disjoint-total p n hp l ok nr apart) (passing-most (members p l) (p ^ n) 0)
+
+-- and no fewer than there are classes
+pub total-least : (p n : ℕ) → 0 < p → (ts : List ℕ) → length ts ≤ memberTotal p n ts
+unfolding memberTotal
+total-least p n hp [] = omega arith
+total-least p n hp (t ∷ ts) = omega (arith, total-least p n hp ts, pow-pos p hp (n - t))
 
 -- of one class more
 pub total-next : (p n : ℕ) (ts : List ℕ) (t : ℕ) → memberTotal p n (ts ++ (t ∷ [])) ≡ memberTotal p n ts + p ^ (n - t)

@@ -91,6 +91,9 @@ module _ (y z : ℤ) where
   pub is-less : up y + down z < up z + down y → ltZ y z ≡ true
   is-less h = less-test y z ∙ lt-ltb (up y + down z) (up z + down y) h
 
+  pub is-not-less : up z + down y ≤ up y + down z → ltZ y z ≡ false
+  is-not-less h = less-test y z ∙ le-ltb (up y + down z) (up z + down y) h
+
   pub not-less-is : ltZ y z ≡ false → up z + down y ≤ up y + down z
   not-less-is e = ltb-false (up y + down z) (up z + down y) (sym (less-test y z) ∙ e)
 

@@ -4,12 +4,19 @@ use mathlib.Core.Logic.{⊎-elim}
 use Prim.Native.Nat.{ℕ, _-_, _^_, _≤_, _<_, min}
 use native.Mathlib.Omega.{arith}
 use borrow.Author.Needs.{needs}
-use lib.ListN.{length, getD, take}
+use lib.IntN.{ℤ, pos}
+use lib.ListN.{length, length-map, getD, take}
 use lib.Seq.{take-all}
+use mir.Syntax.{w32}
+use mir.ValLaws.{toZ-ofZ}
 use Rattle.theory.specs.Range.{least}
-use Rattle.theory.specs.Class.{class, IsClass}
+use Rattle.theory.specs.Polynomial.{reduce}
 use Rattle.theory.specs.ClassList.{members}
+use Rattle.theory.specs.SignedClass.{natural, naturals}
+use Rattle.theory.proofs.Numbers.Power.{pow-pos}
+use Rattle.theory.proofs.Numbers.Reduction.{reduce-lt}
 use Rattle.numbers.proofs.Saturated.{level-power, saturated-power}
+use Rattle.numbers.proofs.Words.{wide-fits, wide-read}
 use Rattle.classes.specs.Rule7.{classesOf}
 use Rattle.classes.specs.inner.Search.{memberFrom}
 use Rattle.classes.proofs.Entries.{classes-same-length}
@@ -20,7 +27,7 @@ use Rattle.classes.proofs.next.least_member.Tie as tie
 
 abbrev Inv-loop : tie.InvT-loop
 Inv-loop p n m residues levels point best₀ i₀ best i =
-    (i ≤ length residues) × (best ≡ least (members p (take i (classesOf residues levels))) (m - point) point)
+    (i ≤ length residues) × (best ≡ least (members p (take i (naturals p (classesOf residues levels)))) (m - point) point)
 
 abbrev μ-loop : tie.MeasureT-loop
 μ-loop p n m residues levels point best₀ i₀ best i = length residues - i
@@ -29,105 +36,93 @@ abbrev μ-loop : tie.MeasureT-loop
 
 module _ (c : tie.After-power Inv-loop μ-loop) where
   abbrev call : tie.Start Inv-loop μ-loop
-  call = c .before .before .before .before .before .before
+  call = c .before .before .before .before .before
 
   abbrev i : ℕ
   i = c .before .before .before .loop .i
 
-  abbrev a : ℕ
-  a = getD (call .args .residues .now) i 0
+  abbrev z : ℤ
+  z = getD (call .args .residues .now) i (pos 0)
 
   abbrev t : ℕ
   t = getD (call .args .levels .now) i 0
 
-  is-class : IsClass (call .args .p) (call .args .n) (class a t)
-  is-class =
+  -- its residue modulo p^t
+  abbrev a : ℕ
+  a = reduce (call .args .p ^ t) z
+
+  level-fits : t ≤ call .args .n
+  level-fits =
       let C = call .pre .0 in
       faultless-entry (call .args .p) (call .args .n) (call .args .residues .now) (call .args .levels .now) (C .same-length) (C .faultless)
-      i (c .before .before .loop-test .taken)
+      i (c .before .before .loop-test .taken) .level-fits
 
   positive : 0 < call .args .p
   positive = omega (arith, call .pre .0 .modulus .prime .two)
 
+  below : a < call .args .p ^ t
+  below = reduce-lt (call .args .p ^ t) (pow-pos (call .args .p) positive t) z
+
   power-is : c .power .result ≡ call .args .p ^ t
-  power-is = saturated-power positive (is-class .level-fits) (call .pre .0 .modulus .within) (c .power .ensures)
+  power-is = saturated-power positive level-fits (call .pre .0 .modulus .within) (c .power .ensures)
+
+reduced-is : (c : tie.After-reduce Inv-loop μ-loop) → c .reduce .result ≡ a (c .before .before)
+reduced-is c =
+    let s = c .before .before in
+    c .reduce .ensures ∙ ap₂ reduce (power-is s) (wide-read (z s) (record { sfits = c .before .reduce-arg .given }))
 
 loop-holds : tie.Need-loop-holds Inv-loop μ-loop
 loop-holds c =
-    let a = c .before .before .args in
-    (omega arith, sym (least-of-none (a .p) (a .point) (a .m) (c .before .before .pre .1)))
+    let a = c .before .args in
+    (omega arith, sym (least-of-none (a .p) (a .point) (a .m) (c .before .pre .1)))
 
-shared-slice-read-power : tie.Need-shared-slice-read-power Inv-loop μ-loop
-shared-slice-read-power c = omega (arith, c .before .before .before .before .before .pre .0 .same-length)
-
-cast-power : tie.Need-cast-power Inv-loop μ-loop
-cast-power c = record { fits = omega (arith, c .shared-slice-known3 .given (c .before .before .loop .i)) }
-
-power-requires : tie.Need-power-requires Inv-loop μ-loop
-power-requires c κs = search needs
-
-mul-member-from : tie.Need-mul-member-from Inv-loop μ-loop
-mul-member-from c = search needs
-
-shared-slice-read-member-from : tie.Need-shared-slice-read-member-from Inv-loop μ-loop
-shared-slice-read-member-from c = search needs
-
-cast-member-from : tie.Need-cast-member-from Inv-loop μ-loop
-cast-member-from c = record { fits = omega (arith, c .shared-slice-known4 .given (i (c .before))) }
+cast-reduce : tie.Need-cast-reduce Inv-loop μ-loop
+cast-reduce c =
+    let s = c .before in
+    rw (toZ-ofZ w32 (z s) (record { sfits = c .reduce-arg .given })) (wide-fits (z s) (record { sfits = c .reduce-arg .given }))
 
 member-from-requires : tie.Need-member-from-requires Inv-loop μ-loop
 member-from-requires c κs =
-    let s = c .before in
+    let s = c .before .before in
     let x = call s in
     let U = x .pre .0 .modulus in
-    rw (power-is s)
-    (is-class s .residue-fits, level-power (positive s) (is-class s .level-fits) (U .within), omega (arith, x .pre .1, U .power, U .within))
-
-add-i : tie.Need-add-i Inv-loop μ-loop
-add-i c = search needs
-
-loop-less : tie.Need-loop-less Inv-loop μ-loop
-loop-less c = search needs
+    rw (power-is s, reduced-is c)
+    (below s, level-power (positive s) (level-fits s) (U .within), omega (arith, x .pre .1, U .power, U .within))
 
 loop-again : tie.Need-loop-again Inv-loop μ-loop
 loop-again c =
-    let s = c .before .before .before in
+    let m = c .before in
+    let s = m .before .before .before in
     let x = call s in
     let l = s .before .before .before .loop in
     let C = x .pre .0 in
-    let r : c .before .member-from .result ≡ memberFrom (a s) (x .args .p ^ t s) (x .args .point) =
-    c .before .member-from .ensures ∙ ap (λ (q : ℕ). memberFrom (a s) q (x .args .point)) (power-is s) in
-    let smaller : c .if1 .best ≡ min (l .best) (c .before .member-from .result) =
+    let r : m .member-from .result ≡ memberFrom (a s) (x .args .p ^ t s) (x .args .point) =
+    m .member-from .ensures ∙ ap₂ (λ (y q : ℕ). memberFrom y q (x .args .point)) (reduced-is (m .before)) (power-is s) in
+    let smaller : c .if1 .best ≡ min (l .best) (m .member-from .result) =
     ⊎-elim (λ w. omega (arith, w .0 .taken, w .1)) (λ w. omega (arith, w .0 .left, w .1)) (c .if1 .came) in
     let next =
-    least-of-next (x .args .p) (x .args .n) (x .args .residues .now) (x .args .levels .now) (C .same-length) (C .faultless) (i s)
+    least-of-next (x .args .p) (x .args .n) (positive s) (x .args .residues .now) (x .args .levels .now) (C .same-length) (i s)
     (x .args .point) (x .args .m) (s .before .before .loop-test .taken) (x .pre .1) in
     (omega arith, smaller ∙ ap₂ min (l .inv .1) r ∙ sym next)
 
 returns : tie.Need-returns Inv-loop μ-loop
 returns c =
-    let x = c .before .before .before .before in
+    let x = c .before .before .before in
+    let p = x .args .p in
     let L = classesOf (x .args .residues .now) (x .args .levels .now) in
     c .before .loop .inv .1
-    ∙ ap (λ l. least (members (x .args .p) l) (x .args .m - x .args .point) (x .args .point))
-    (take-all (c .before .loop .i) L
-    (omega (arith, classes-same-length (x .args .residues .now) (x .args .levels .now) (x .pre .0 .same-length))))
+    ∙ ap (λ l. least (members p l) (x .args .m - x .args .point) (x .args .point))
+    (take-all (c .before .loop .i) (naturals p L)
+    (omega (
+      arith,
+      length-map L (natural p),
+      classes-same-length (x .args .residues .now) (x .args .levels .now) (x .pre .0 .same-length),
+    )))
 
 pub least-member-spec : {M : Type 1} → statement M
 least-member-spec =
     tie.close
-    (tie.spec
-    Inv-loop
-    μ-loop
-    loop-holds
-    shared-slice-read-power
-    cast-power
-    power-requires
-    mul-member-from
-    shared-slice-read-member-from
-    cast-member-from
-    member-from-requires
-    add-i
-    loop-less
-    loop-again
-    returns)
+    (tie.spec Inv-loop μ-loop loop-holds (λ c. omega (arith, c .before .before .before .before .pre .0 .same-length))
+    (λ c. record { fits = omega (arith, c .shared-slice-known2 .given (c .before .before .loop .i)) }) (λ c κs. search needs)
+    (λ c. search needs) (λ c. search needs) cast-reduce (λ c κs. search needs) member-from-requires (λ c. search needs) (λ c. search needs)
+    loop-again returns)

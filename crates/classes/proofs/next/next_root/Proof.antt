@@ -14,7 +14,7 @@ enum-known-m c = search needs
 
 next-member-requires : tie.Need-next-member-requires
 next-member-requires c κs =
-    let a = c .before .before .before .before .before .before .args in
+    let a = c .before .before .before .before .before .args in
     let m = c .before .m .given in
     checked-accepted (a .p) (a .n) (a .residues .now) (a .levels .now) (m .0 .0)
     (sym (c .before .before .before .check-list .ensures) ∙ m .1)
@@ -27,7 +27,7 @@ returns c = search needs
 
 returns-2 : tie.Need-returns-2
 returns-2 c =
-    let a = c .before .before .before .before .before .before .args in
+    let a = c .before .before .before .before .before .args in
     let r = c .before .r .given in
     sym (next-refused (a .p) (a .n) (a .residues .now) (a .levels .now) (a .point) (r .0 .0)
     (sym (c .before .before .before .check-list .ensures) ∙ r .1))

@@ -1,0 +1,81 @@
+-- `classes::usable::is_centered` meets its contract.
+use mathlib.Core.Path.{_≡_, refl, sym, ap, ap₂, _∙_}
+use mathlib.Core.Bool.{true, false, _&&_}
+use Prim.Native.Nat.{ℕ, _*_, _≤_}
+use native.Mathlib.Omega.{arith}
+use borrow.Author.Needs.{needs}
+use lib.IntN.{ℤ, pos, negℤ, _-ℤ_, _*ℤ_}
+use lib.Signed.{ltZ, leZ}
+use mir.Syntax.{w32, w64}
+use mir.Val.{SFits, toZ, ofZ}
+use mir.ValLaws.{toZ-pos, toZ-ofZ}
+use Rattle.theory.specs.Centered.{isCentered}
+use Rattle.theory.proofs.Numbers.Integers.{up, down, is-unique, sum-is, opposite-is, negative-is, product-is, at-most-is, not-at-most-is, is-less, is-not-less}
+use Rattle.numbers.proofs.Words.{difference-fits, wide-fits, wide-read, narrow-parts}
+use Rattle.classes.proofs.usable.is_centered.Statement.{statement}
+use Rattle.classes.proofs.usable.is_centered.Tie as tie
+
+-- 2z and −q as the words are read
+module _ (a : tie.Start) where
+  abbrev q : ℕ
+  q = a .args .q
+
+  abbrev z : ℤ
+  z = a .args .z
+
+  -- 2z and −q
+  abbrev twice : ℤ
+  twice = pos 2 *ℤ z
+
+  abbrev low : ℤ
+  low = negℤ (pos q)
+
+  -- as the code computes them
+  abbrev doubled : ℤ
+  doubled = pos 2 *ℤ toZ w64 (ofZ w64 (toZ w32 (ofZ w32 z)))
+
+  abbrev negated : ℤ
+  negated = pos 0 -ℤ toZ w64 q
+
+  doubled-is : doubled ≡ twice
+  doubled-is = ap (λ (x : ℤ). pos 2 *ℤ x) (wide-read z (a .fits .z))
+
+  doubled-fits : SFits w64 doubled
+  doubled-fits =
+      let (u, d) = narrow-parts z (a .fits .z) in
+      rw doubled-is (difference-fits twice (2 * up z) (2 * down z) (product-is 2 z) (omega arith) (omega arith))
+
+  negated-is : negated ≡ low
+  unfolding up down
+  negated-is =
+      ap (λ (x : ℤ). pos 0 -ℤ x) (toZ-pos w64 q (omega (arith, a .pre)))
+      ∙ is-unique (pos 0 -ℤ pos q) low 0 q (omega (arith, sum-is (pos 0) low, negative-is q)) (negative-is q)
+
+  negated-fits : SFits w64 negated
+  negated-fits = rw negated-is (difference-fits low 0 q (negative-is q) (omega arith) (omega (arith, a .pre)))
+
+  read-doubled : toZ w64 (ofZ w64 doubled) ≡ twice
+  read-doubled = toZ-ofZ w64 doubled doubled-fits ∙ doubled-is
+
+  read-negated : toZ w64 (ofZ w64 negated) ≡ low
+  read-negated = toZ-ofZ w64 negated negated-fits ∙ negated-is
+
+returns : tie.Need-returns
+unfolding isCentered
+returns c =
+    let a = c .before in
+    let h = rw (read-doubled a, read-negated a) at (c .if1 .taken) in
+    rw (is-not-less (low a) (twice a) (at-most-is (twice a) (low a) h))
+
+returns-2 : tie.Need-returns-2
+unfolding isCentered
+returns-2 c =
+    let a = c .before in
+    let h = rw (read-doubled a, read-negated a) at (c .if1 .left) in
+    rw (read-doubled a, toZ-pos w64 (q a) (omega (arith, a .pre)), is-less (low a) (twice a) (not-at-most-is (twice a) (low a) h))
+
+pub is-centered-spec : {M : Type 1} → statement M
+is-centered-spec =
+    tie.close
+    (tie.spec (λ c. search needs) (λ c. rw (toZ-ofZ w32 (z c) (c .fits .z)) (wide-fits (z c) (c .fits .z))) doubled-fits negated-fits returns
+    returns-2)
