@@ -2,9 +2,10 @@
 
    A polynomial is given by 1 to 65 signed 64-bit coefficients, the constant one first. p is a prime from 2 to 65521,
    n is at least 1, and p^n is at most 4294967295. A root is a residue r from 0 to p^n - 1 at which p^n divides the
-   polynomial's value. A class a/t, of residue a < p^t and level t from 0 to n, has as members the residues r below
-   p^n with r = a modulo p^t; there are p^(n-t). The solver gives the shortest list of classes whose members are
-   exactly the roots. Example: x^2 - 1 modulo 2^4 has the classes 1/3 and 7/3 and the four roots 1, 7, 9 and 15.
+   polynomial's value. A class a/t, of level t from 0 to n, has as members the residues r from 0 to p^n - 1 with r = a
+   modulo p^t; there are p^(n-t). Its residue a is the one of least size, a signed number: -p^t < 2a <= p^t. The solver
+   gives the shortest list of classes whose members are exactly the roots. Example: x^2 - 1 modulo 2^4 has the classes
+   -1/3 and 1/3 and the four roots 1, 7, 9 and 15.
 
    What is lent. A list, a map or a text is lent as a pointer and the number of its elements. The library allocates
    nothing, keeps no pointer after a call and has no state: calls from several threads at once are fine as long as
@@ -47,8 +48,9 @@ enum wimpleclay_number {
     WIMPLECLAY_COMPOSITE = 14,            /* p is composite; place: its least divisor above 1, which is a prime */
     WIMPLECLAY_PRECISION = 5,             /* n is 0, or p^n exceeds 4294967295 */
     WIMPLECLAY_LENGTHS = 6,               /* the lists differ in length; place: the shortest length */
-    /* A given list has an entry with level above n, residue not below p^level, residue not above the entry before, a
-       member shared with an earlier entry, or (writer) a mark above 2; place: the first such index. */
+    /* A given list has an entry with level above n, residue outside -p^level < 2 * residue <= p^level, residue not
+       above the entry before (as signed numbers), a member shared with an earlier entry, or (writer) a mark above 2;
+       place: the first such index. */
     WIMPLECLAY_ENTRY = 7,
     WIMPLECLAY_POINT = 8,            /* the point is not below p^n */
     WIMPLECLAY_MAP_TOO_LARGE = 9,    /* a map, or its count, is asked for with p^n above 524288 */
@@ -84,14 +86,14 @@ typedef struct {
 } wimpleclay_solve_answer;
 
 /* The root classes of the polynomial modulo p^n. The lent lists must have the same length. The k classes go into the
-   first k slots, rising by residue: its residue, its level, and its mark. The mark tells of g, which is the polynomial
-   divided by the largest power of p that is common to its coefficients modulo p^n: it is 1 if p divides the derivative
-   of g at none of the class's members, 0 if at all, 2 if at some, and 0 if all coefficients are 0 modulo p^n. Only a
-   class of level 0, which is everything, can have mark 2. Later slots keep their content. The list is the shortest that
-   there is, the only one of its length, and no residue is a member of two of its classes. Rules 2, 3, 4, 14, 5, 6 and
-   11 (place: k, so a call with lists of length 0 asks for k). */
+   first k slots, rising by the signed residue: its residue, its level, and its mark. The mark tells of g, which is the
+   polynomial divided by the largest power of p that is common to its coefficients modulo p^n: it is 1 if p divides the
+   derivative of g at none of the class's members, 0 if at all, 2 if at some, and 0 if all coefficients are 0 modulo
+   p^n. Only a class of level 0, which is everything, can have mark 2. Later slots keep their content. The list is the
+   shortest that there is, the only one of its length, and no residue is a member of two of its classes. Rules 2, 3, 4,
+   14, 5, 6 and 11 (place: k, so a call with lists of length 0 asks for k). */
 wimpleclay_solve_answer wimpleclay_solve(const int64_t *coefficients, size_t coefficients_length, uint32_t p,
-                                         uint32_t n, uint32_t *residues, size_t residues_length, uint8_t *levels,
+                                         uint32_t n, int32_t *residues, size_t residues_length, uint8_t *levels,
                                          size_t levels_length, uint8_t *marks, size_t marks_length);
 
 typedef struct {
@@ -110,14 +112,14 @@ typedef struct {
     uint32_t number;
     size_t place;
     uint32_t found; /* 1 if there is a member at or after the point, 0 if there is none */
-    uint32_t root;  /* the least such member, 0 if there is none */
+    uint32_t root;  /* the least such member, from 0 to p^n - 1; 0 if there is none */
 } wimpleclay_next_answer;
 
-/* The least member at or after the point of the classes in the two lists, as the solver left them or as given. All
-   entries are used: pass k for both lengths. To get every root in rising order start with the point 0 and go on with
-   root + 1, until found is 0; where p^n - 1 is a root, the call after it is refused 8. Rules 4, 14, 5, 6,
-   7 and 8. */
-wimpleclay_next_answer wimpleclay_next_root(uint32_t p, uint32_t n, const uint32_t *residues, size_t residues_length,
+/* The least member at or after the point of the classes in the two lists, as the solver left them or as given. Points
+   and members are from 0 to p^n - 1, never negative as a class's residue may be. All entries are used: pass k for both
+   lengths. To get every root in rising order start with the point 0 and go on with root + 1, until found is 0; where
+   p^n - 1 is a root, the call after it is refused 8. Rules 4, 14, 5, 6, 7 and 8. */
+wimpleclay_next_answer wimpleclay_next_root(uint32_t p, uint32_t n, const int32_t *residues, size_t residues_length,
                                             const uint8_t *levels, size_t levels_length, uint32_t point);
 
 /* Root maps ********************************************************************************************************/
@@ -127,10 +129,10 @@ typedef struct {
     size_t place;
 } wimpleclay_map_answer;
 
-/* The root map of the classes in the two lists: residue r is the bit of weight 2^(r % 8) in byte r / 8, 1 for a
-   member. Every byte of the map is written, whatever it held; spare high bits of the last byte are 0. Rules 4, 14,
-   5, 6, 7, 9 and 10. */
-wimpleclay_map_answer wimpleclay_fill_map(uint32_t p, uint32_t n, const uint32_t *residues, size_t residues_length,
+/* The root map of the classes in the two lists: the residue r from 0 to p^n - 1 is the bit of weight 2^(r % 8) in byte
+   r / 8, 1 for a member. Every byte of the map is written, whatever it held; spare high bits of the last byte are 0.
+   Rules 4, 14, 5, 6, 7, 9 and 10. */
+wimpleclay_map_answer wimpleclay_fill_map(uint32_t p, uint32_t n, const int32_t *residues, size_t residues_length,
                                           const uint8_t *levels, size_t levels_length, uint8_t *map,
                                           size_t map_length);
 
@@ -171,10 +173,10 @@ typedef struct {
 } wimpleclay_write_answer;
 
 /* The text of a list of classes: a line of p, n, the number of classes and the number of roots, then a line a class
-   of residue, level, number of members and mark; all columns are 11 wide. It is WIMPLECLAY_TEXT_BYTES(k) bytes, with
-   no 0 at its end; later bytes of the lent text keep their content. Rules 4, 14, 5, 6, 7 and 12 (place: the bytes
-   needed). */
-wimpleclay_write_answer wimpleclay_write_classes(uint32_t p, uint32_t n, const uint32_t *residues,
+   of residue, level, number of members and mark; all columns are 11 wide, and a negative residue has its minus before
+   its digits. It is WIMPLECLAY_TEXT_BYTES(k) bytes, with no 0 at its end; later bytes of the lent text keep their
+   content. Rules 4, 14, 5, 6, 7 and 12 (place: the bytes needed). */
+wimpleclay_write_answer wimpleclay_write_classes(uint32_t p, uint32_t n, const int32_t *residues,
                                                  size_t residues_length, const uint8_t *levels, size_t levels_length,
                                                  const uint8_t *marks, size_t marks_length, uint8_t *text,
                                                  size_t text_length);

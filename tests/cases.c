@@ -5,24 +5,24 @@
 #include <string.h>
 #include <wimpleclay.h>
 
-static uint32_t residues[WIMPLECLAY_MAX_CLASSES];
+static int32_t residues[WIMPLECLAY_MAX_CLASSES];
 static uint8_t levels[WIMPLECLAY_MAX_CLASSES], marks[WIMPLECLAY_MAX_CLASSES], map[65537];
 
 /* Solving *****************************************************************************************************************************/
 
 typedef struct {
     const char *what;
-    int64_t f[4];
+    int64_t f[5];
     size_t count;
     uint32_t p, n;
     size_t slots[3];
     wimpleclay_solve_answer answer;
-    uint32_t residues[2];
-    uint8_t levels[2], marks[2];
+    int32_t residues[3];
+    uint8_t levels[3], marks[3];
 } solving;
 
 static const solving solvings[] = {
-    {"x^2 - 1 modulo 16", {-1, 0, 1}, 3, 2, 4, {9, 9, 9}, {0, 0, 2, 4}, {1, 7}, {3, 3}, {0, 0}},
+    {"x^2 - 1 modulo 16", {-1, 0, 1}, 3, 2, 4, {9, 9, 9}, {0, 0, 2, 4}, {-1, 1}, {3, 3}, {0, 0}},
     {"x^2 - 1 modulo 8", {-1, 0, 1}, 3, 2, 3, {9, 9, 9}, {0, 0, 1, 4}, {1}, {1}, {0}},
     {"x^3 + x^2 modulo 2", {0, 0, 1, 1}, 4, 2, 1, {1, 1, 1}, {0, 0, 1, 2}, {0}, {0}, {2}},
     {"x^2 + 3x modulo 9", {0, 3, 1}, 3, 3, 2, {1, 1, 1}, {0, 0, 1, 3}, {0}, {1}, {0}},
@@ -30,10 +30,20 @@ static const solving solvings[] = {
     {"0 modulo 25", {0}, 1, 5, 2, {1, 1, 1}, {0, 0, 1, 25}, {0}, {0}, {0}},
     {"25 modulo 25", {25}, 1, 5, 2, {1, 1, 1}, {0, 0, 1, 25}, {0}, {0}, {0}},
     {"5 modulo 25", {5}, 1, 5, 2, {1, 1, 1}, {0, 0, 0, 0}, {0}, {0}, {0}},
-    {"x^2 + 1 modulo 25", {1, 0, 1}, 3, 5, 2, {2, 2, 2}, {0, 0, 2, 2}, {7, 18}, {2, 2}, {1, 1}},
+    {"x^2 + 1 modulo 25", {1, 0, 1}, 3, 5, 2, {2, 2, 2}, {0, 0, 2, 2}, {-7, 7}, {2, 2}, {1, 1}},
     {"3x modulo 9", {0, 3}, 2, 3, 2, {1, 1, 1}, {0, 0, 1, 3}, {0}, {1}, {1}},
     {"x^2 + x modulo 2", {0, 1, 1}, 3, 2, 1, {1, 1, 1}, {0, 0, 1, 2}, {0}, {0}, {1}},
     {"2x^2 + 2x modulo 4", {0, 2, 2}, 3, 2, 2, {1, 1, 1}, {0, 0, 1, 4}, {0}, {0}, {1}},
+    {"x^4 - 16x^2 modulo 9", {0, 0, -16, 0, 1}, 5, 3, 2, {3, 3, 3}, {0, 0, 3, 5}, {-4, 0, 4}, {2, 1, 2}, {1, 0, 1}},
+    {"x^3 - 1 modulo 7", {-1, 0, 0, 1}, 4, 7, 1, {4, 4, 4}, {0, 0, 3, 3}, {-3, 1, 2}, {1, 1, 1}, {1, 1, 1}},
+    {"x^2 - 4 modulo 32", {-4, 0, 1}, 3, 2, 5, {1, 1, 1}, {0, 0, 1, 8}, {2}, {2}, {0}},
+    {"x + 1 modulo 2", {1, 1}, 2, 2, 1, {1, 1, 1}, {0, 0, 1, 1}, {1}, {1}, {1}},
+    {"x + 8 modulo 16", {8, 1}, 2, 2, 4, {1, 1, 1}, {0, 0, 1, 1}, {8}, {4}, {1}},
+    {"x + 1 modulo 65521^2", {1, 1}, 2, 65521, 2, {1, 1, 1}, {0, 0, 1, 1}, {-1}, {2}, {1}},
+    {"the largest residue", {-2146500720, 1}, 2, 65521, 2, {1, 1, 1}, {0, 0, 1, 1}, {2146500720}, {2}, {1}},
+    {"the least residue", {2146500720, 1}, 2, 65521, 2, {1, 1, 1}, {0, 0, 1, 1}, {-2146500720}, {2}, {1}},
+    {"x + 2^30 modulo 2^31", {1073741824, 1}, 2, 2, 31, {1, 1, 1}, {0, 0, 1, 1}, {1073741824}, {31}, {1}},
+    {"x + 2^30 - 1 modulo 2^31", {1073741823, 1}, 2, 2, 31, {1, 1, 1}, {0, 0, 1, 1}, {-1073741823}, {31}, {1}},
     {"x modulo 2^31", {0, 1}, 2, 2, 31, {1, 1, 1}, {0, 0, 1, 1}, {0}, {31}, {1}},
     {"x modulo 65521^2", {0, 1}, 2, 65521, 2, {1, 1, 1}, {0, 0, 1, 1}, {0}, {2}, {1}},
     {"0 modulo 65521^2", {0}, 1, 65521, 2, {1, 1, 1}, {0, 0, 1, UINT64_C(4293001441)}, {0}, {0}, {0}},
@@ -91,27 +101,29 @@ typedef struct {
     const char *what;
     uint32_t p, n;
     size_t lengths[2];
-    uint32_t residues[3];
+    int32_t residues[3];
     uint8_t levels[3];
     uint32_t point;
     wimpleclay_next_answer answer;
 } stepping;
 
 static const stepping steppings[] = {
-    {"1/3, 7/3 from 2", 2, 4, {2, 2}, {1, 7}, {3, 3}, 2, {0, 0, 1, 7}},
-    {"1/3, 7/3 from 15", 2, 4, {2, 2}, {1, 7}, {3, 3}, 15, {0, 0, 1, 15}},
-    {"1/3, 7/3 from 16", 2, 4, {2, 2}, {1, 7}, {3, 3}, 16, {8, 0, 0, 0}},
-    {"7/2, 18/2 from 19", 5, 2, {2, 2}, {7, 18}, {2, 2}, 19, {0, 0, 0, 0}},
+    {"-1/3, 1/3 from 2", 2, 4, {2, 2}, {-1, 1}, {3, 3}, 2, {0, 0, 1, 7}},
+    {"-1/3, 1/3 from 8", 2, 4, {2, 2}, {-1, 1}, {3, 3}, 8, {0, 0, 1, 9}},
+    {"-1/3, 1/3 from 15", 2, 4, {2, 2}, {-1, 1}, {3, 3}, 15, {0, 0, 1, 15}},
+    {"-1/3, 1/3 from 16", 2, 4, {2, 2}, {-1, 1}, {3, 3}, 16, {8, 0, 0, 0}},
+    {"-7/2, 7/2 from 8", 5, 2, {2, 2}, {-7, 7}, {2, 2}, 8, {0, 0, 1, 18}},
+    {"-7/2, 7/2 from 19", 5, 2, {2, 2}, {-7, 7}, {2, 2}, 19, {0, 0, 0, 0}},
+    {"-1 from 0", 65521, 2, {1, 1}, {-1}, {2}, 0, {0, 0, 1, UINT32_C(4293001440)}},
+    {"the least residue from 2^31 - 1", 65521, 2, {1, 1}, {-2146500720}, {2}, INT32_MAX, {0, 0, 0, 0}},
+    {"the least residue from itself", 65521, 2, {1, 1}, {-2146500720}, {2}, 2146500721, {0, 0, 1, 2146500721}},
+    {"half of 2^31 from 2^30 + 1", 2, 31, {1, 1}, {1073741824}, {31}, 1073741825, {0, 0, 0, 0}},
     {"no class", 5, 2, {0, 0}, {0}, {0}, 3, {0, 0, 0, 0}},
     {"everything", 65521, 2, {1, 1}, {0}, {0}, UINT32_C(4293001440), {0, 0, 1, UINT32_C(4293001440)}},
     {"p is 9", 9, 0, {1, 2}, {5}, {9}, 99, {14, 3, 0, 0}},
     {"n is 0", 3, 0, {1, 2}, {5}, {9}, 99, {5, 0, 0, 0}},
     {"lists of other lengths", 3, 2, {3, 2}, {5, 5, 5}, {9, 9, 9}, 99, {6, 2, 0, 0}},
-    {"a level above n", 3, 2, {3, 3}, {0, 1, 2}, {1, 3, 1}, 99, {7, 1, 0, 0}},
-    {"level 255", 3, 2, {3, 3}, {0, 1, 2}, {1, 1, 255}, 99, {7, 2, 0, 0}},
-    {"a residue not below p^t", 3, 2, {3, 3}, {3, 1, 2}, {1, 1, 1}, 99, {7, 0, 0, 0}},
-    {"residues that do not rise", 3, 2, {3, 3}, {0, 2, 2}, {1, 1, 1}, 99, {7, 2, 0, 0}},
-    {"a shared member", 3, 2, {3, 3}, {0, 1, 4}, {1, 1, 2}, 99, {7, 2, 0, 0}},
+    {"a faulty entry and point", 3, 2, {3, 3}, {-1, 0, 2}, {1, 1, 1}, 99, {7, 2, 0, 0}},
 };
 
 static void test_stepping(const stepping *c)
@@ -124,11 +136,11 @@ static void test_stepping(const stepping *c)
 
 static void test_maps(void)
 {
-    static const uint32_t r[] = {1, 7};
+    static const int32_t r[] = {-1, 1};
     static const uint8_t t[] = {3, 3};
     uint8_t small[2] = {255, 255};
     expect(wimpleclay_fill_map(2, 4, r, 2, t, 2, small, 2).number == 0 && small[0] == 130 && small[1] == 130,
-           "map of 1/3, 7/3");
+           "map of -1/3, 1/3");
     expect(wimpleclay_count_map(2, 4, small, 2).ones == 4, "count of that map");
     expect(wimpleclay_fill_map(2, 4, r, 2, t, 2, map, 3).number == 10, "a map of 3 bytes for 16 residues");
     expect(wimpleclay_fill_map(2, 4, r, 1, t, 2, map, 3).number == 6, "fill_map: lists of other lengths");
@@ -154,8 +166,8 @@ static void test_text(void)
     static const char problem[] =
         "          2          4          3\n                  -1\n                   0\n                   1\n";
     static const char written[] =
-        "          2          4          2          4\n          1          3          2          0\n"
-        "          7          3          2          0\n";
+        "          2          4          2          4\n         -1          3          2          0\n"
+        "          1          3          2          0\n";
     int64_t f[WIMPLECLAY_MAX_COEFFICIENTS];
     uint8_t text[sizeof written - 1];
     wimpleclay_read_answer a = wimpleclay_read_problem((const uint8_t *)problem, sizeof problem - 1, f, 65);

@@ -1,58 +1,52 @@
 /* wimpleclay_next_root, wimpleclay_fill_map and wimpleclay_count_map on drawn lists, sound and damaged, against trial. */
 #include "check.h"
-#include "reference.h"
+#include "drawn.h"
 #include "tests.h"
 
-#include <string.h>
 #include <wimpleclay.h>
 
+/* The list drawn, as it is lent, and its refusal by rules 6 and 7. */
 static list l;
+static loan residues, levels;
+static size_t lengths[2];
+static refusal refused;
 
-/* Draws entries: most rise and fit, some do not. */
-static void draw_list(uint32_t p, uint32_t n)
+/* Asks for the next root, and gives the right answer, p^n for none or a refusal. */
+static uint64_t test_point(uint32_t p, uint32_t n, uint64_t point)
 {
-    uint64_t residue = 0;
-    l.k = draw(7);
-    for (size_t i = 0; i < l.k; i++) {
-        uint32_t level = (uint32_t)draw(n + 1);
-        uint64_t members = power(p, level);
-        residue = draw(9) == 0 ? draw(members + 1) : residue + (i > 0) + draw(1 + members / 4);
-        while (level < n && residue >= power(p, level))
-            level++;
-        l.residues[i] = (uint32_t)residue;
-        l.levels[i] = (uint8_t)(draw(40) == 0 ? n + 1 : level);
-    }
+    uint64_t m = power(p, n), next = refused.number ? m : next_by_trial(p, n, &l, point);
+    refusal r = !refused.number && point >= m ? (refusal){8, 0} : refused;
+    wimpleclay_next_answer a =
+        wimpleclay_next_root(p, n, lent(&residues), lengths[0], lent(&levels), lengths[1], (uint32_t)point);
+    expect(a.number == r.number && a.place == r.place, "next_root: refusal and place");
+    expect(a.found == (next < m) && a.root == (next < m ? next : 0), "next_root: the least member");
+    return next;
 }
 
-static void test_next(uint32_t p, uint32_t n, const loan *residues, const loan *levels, size_t lengths[2], refusal r)
+static void test_next(uint32_t p, uint32_t n)
 {
-    uint32_t m = (uint32_t)power(p, n);
-    for (uint32_t point = 0; point <= m; point += 1 + (uint32_t)draw(1 + m / 8)) {
-        wimpleclay_next_answer a =
-            wimpleclay_next_root(p, n, lent(residues), lengths[0], lent(levels), lengths[1], point);
-        uint32_t next = point;
-        while (!r.number && next < m && !l.member[next])
-            next++;
-        if (!r.number && point == m)
-            r.number = 8;
-        int found = !r.number && next < m;
-        expect(a.number == r.number && a.place == r.place, "next_root: refusal and place");
-        expect(a.found == (uint32_t)found && a.root == (found ? next : 0), "next_root: the least member");
+    uint64_t m = power(p, n);
+    for (uint64_t point = 0; point < m; point += 1 + draw(1 + m / 8)) {
+        uint64_t next = test_point(p, n, point);
+        test_point(p, n, next);
+        test_point(p, n, next < m ? next + 1 : UINT32_MAX);
     }
+    test_point(p, n, m - 1);
 }
 
-static void test_map(uint32_t p, uint32_t n, const loan *residues, const loan *levels, size_t lengths[2], refusal r)
+static void test_map(uint32_t p, uint32_t n)
 {
     uint32_t m = (uint32_t)power(p, n);
     size_t bytes = WIMPLECLAY_MAP_BYTES(m) + (draw(8) == 0) - (draw(8) == 0);
     loan map = lend(NULL, bytes);
     wimpleclay_map_answer a =
-        wimpleclay_fill_map(p, n, lent(residues), lengths[0], lent(levels), lengths[1], lent(&map), bytes);
+        wimpleclay_fill_map(p, n, lent(&residues), lengths[0], lent(&levels), lengths[1], lent(&map), bytes);
     int wrong = bytes != WIMPLECLAY_MAP_BYTES(m);
-    if (!r.number && wrong)
-        r.number = 10;
+    refusal r = !refused.number && wrong ? (refusal){10, 0} : refused;
     expect(a.number == r.number && a.place == r.place, "fill_map: refusal and place");
     expect(kept_from(&map, r.number ? 0 : bytes), "fill_map: other memory is kept");
+    if (!refused.number)
+        fill_members(p, n, &l);
     const uint8_t *byte = lent(&map);
     uint64_t ones = 0, agree = 1;
     for (uint32_t bit = 0; !wrong && bit < 8 * bytes; bit++) {
@@ -60,22 +54,35 @@ static void test_map(uint32_t p, uint32_t n, const loan *residues, const loan *l
         ones += bit < m && set;
         agree &= set == (bit < m && l.member[bit]);
     }
-    expect(r.number || agree, "fill_map: bits");
+    expect(r.number || (agree && ones == l.members), "fill_map: bits");
     wimpleclay_count_answer c = wimpleclay_count_map(p, n, byte, bytes);
     expect(c.number == (wrong ? 10 : 0) && c.place == 0 && c.ones == ones, "count_map: ones");
     expect(kept_from(&map, r.number ? 0 : bytes), "count_map: the map is kept");
     end_loan(&map);
 }
 
+/* A modulus that has no map: rule 7 comes before rule 9. */
+static void test_no_map(uint32_t p, uint32_t n)
+{
+    refusal r = refused.number ? refused : (refusal){9, 0};
+    wimpleclay_map_answer a =
+        wimpleclay_fill_map(p, n, lent(&residues), lengths[0], lent(&levels), lengths[1], NULL, 0);
+    expect(a.number == r.number && a.place == r.place, "fill_map: a modulus above 524288");
+}
+
 static void test_list(uint32_t p, uint32_t n)
 {
-    size_t lengths[2] = {l.k, l.k + (draw(15) == 0)};
-    loan residues = lend(l.residues, l.k * sizeof *l.residues), levels = lend(l.levels, lengths[1]);
-    refusal r = refused_list(p, n, &l, lengths[0], lengths[1], NULL);
-    if (!r.number)
-        fill_members(p, n, &l);
-    test_next(p, n, &residues, &levels, lengths, r);
-    test_map(p, n, &residues, &levels, lengths, r);
+    draw_list(p, n, &l, 0);
+    lengths[0] = l.k;
+    lengths[1] = l.k + (draw(15) == 0);
+    residues = lend(l.residues, lengths[0] * sizeof *l.residues);
+    levels = lend(l.levels, lengths[1]);
+    refused = refused_list(p, n, &l, lengths[0], lengths[1], NULL);
+    test_next(p, n);
+    if (power(p, n) <= MOST)
+        test_map(p, n);
+    else
+        test_no_map(p, n);
     expect(kept_from(&residues, 0) && kept_from(&levels, 0), "the lists are kept");
     end_loan(&residues);
     end_loan(&levels);
@@ -84,10 +91,14 @@ static void test_list(uint32_t p, uint32_t n)
 void test_lists(void)
 {
     static const uint32_t primes[] = {2, 3, 5, 7, 13};
+    /* some powers just below and above 2^31, and the largest */
+    static const uint32_t large[][2] = {{2, 31}, {3, 20}, {251, 4}, {1621, 3}, {46337, 2}, {46349, 2}, {65521, 2}};
     for (size_t i = 0; i < sizeof primes / sizeof *primes; i++)
         for (uint32_t n = 1; power(primes[i], n) <= 729; n++)
-            for (int j = 0; j < 300; j++) {
-                draw_list(primes[i], n);
+            for (int j = 0; j < 300; j++)
                 test_list(primes[i], n);
-            }
+    for (size_t i = 0; i < sizeof large / sizeof *large; i++)
+        for (int j = 0; j < 50; j++)
+            test_list(large[i][0], large[i][1]);
+    expect_every_fault(0);
 }

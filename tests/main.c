@@ -5,6 +5,7 @@
 int main(void)
 {
     test_fixed_cases();
+    test_rule_7();
     test_moduli();
     test_solving();
     test_lists();

@@ -20,7 +20,7 @@ static void test_pair(uint32_t p, uint32_t n)
 {
     static const int64_t one[] = {1};
     refusal r = refused_modulus(p, n);
-    loan residues = lend(NULL, SLOTS * sizeof(uint32_t)), levels = lend(NULL, SLOTS), marks = lend(NULL, SLOTS - 1);
+    loan residues = lend(NULL, SLOTS * sizeof(int32_t)), levels = lend(NULL, SLOTS), marks = lend(NULL, SLOTS - 1);
     loan bytes = lend(NULL, BYTES);
     wimpleclay_solve_answer solved = wimpleclay_solve(one, 1, p, n, lent(&residues), SLOTS, lent(&levels), SLOTS,
                                                       lent(&marks), SLOTS - 1);

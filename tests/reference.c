@@ -50,12 +50,12 @@ static uint64_t common_power(const int64_t *f, size_t count, uint32_t p, uint64_
 }
 
 /* 1 if p divides the derivative of f / p^s at no member of the class, 0 if at all, 2 if at some; 0 if all coefficients reduce to zero. */
-static uint8_t mark(const int64_t *f, size_t count, uint64_t a, uint64_t step, uint32_t p, uint64_t m)
+static uint8_t mark(const int64_t *f, size_t count, int64_t z, uint64_t step, uint32_t p, uint64_t m)
 {
     uint64_t q = common_power(f, count, p, m), members = 0, zeros = 0;
     if (q == m)
         return 0;
-    for (uint64_t r = a; r < m; r += step) {
+    for (uint64_t r = residue_of(z, step); r < m; r += step) {
         uint64_t v = 0;
         for (size_t i = count; i-- > 1;)
             v = (v * (r % p) + i * (residue_of(f[i], m) / q % p)) % p;
@@ -65,13 +65,23 @@ static uint8_t mark(const int64_t *f, size_t count, uint64_t a, uint64_t step, u
     return zeros == 0 ? 1 : zeros == members ? 0 : 2;
 }
 
-/* Whether all members of a/t have the bit set. */
-static int whole(const uint8_t *set, uint64_t a, uint64_t step, uint64_t m)
+/* Whether all residues congruent to z modulo the step are in the set. */
+static int whole(const uint8_t *set, int64_t z, uint64_t step, uint64_t m)
 {
-    for (uint64_t r = a; r < m; r += step)
+    for (uint64_t r = residue_of(z, step); r < m; r += step)
         if (!set[r])
             return 0;
     return 1;
+}
+
+static int below_range(int64_t z, uint64_t q)
+{
+    return 2 * z <= -(int64_t)q;
+}
+
+static int above_range(int64_t z, uint64_t q)
+{
+    return 2 * z > (int64_t)q;
 }
 
 void solve_by_trial(const int64_t *f, size_t count, uint32_t p, uint32_t n, list *s)
@@ -82,38 +92,44 @@ void solve_by_trial(const int64_t *f, size_t count, uint32_t p, uint32_t n, list
         s->member[r] = value(f, count, r, m) == 0;
         s->members += s->member[r];
     }
-    for (uint64_t a = 0; a < m; a++)
+    for (int64_t z = -(int64_t)m; z <= (int64_t)m; z++)
         for (uint32_t t = 0; t <= n; t++) {
             uint64_t step = power(p, t);
-            if (a >= step || !whole(s->member, a, step, m) ||
-                (t > 0 && whole(s->member, a % (step / p), step / p, m)))
+            if (below_range(z, step) || above_range(z, step) || !whole(s->member, z, step, m) ||
+                (t > 0 && whole(s->member, z, step / p, m)))
                 continue;
-            s->residues[s->k] = (uint32_t)a;
+            s->residues[s->k] = (int32_t)z;
             s->levels[s->k] = (uint8_t)t;
-            s->marks[s->k++] = mark(f, count, a, step, p, m);
+            s->marks[s->k++] = mark(f, count, z, step, p, m);
         }
 }
 
 /* Whether entries i and j of the list have a common member. */
 static int share(uint32_t p, uint32_t n, const list *l, size_t i, size_t j)
 {
-    uint64_t m = power(p, n), step = power(p, l->levels[j]);
-    for (uint64_t r = l->residues[i]; r < m; r += power(p, l->levels[i]))
-        if (r % step == l->residues[j])
+    uint64_t m = power(p, n), step = power(p, l->levels[i]), other = power(p, l->levels[j]);
+    uint64_t rest = residue_of(l->residues[j], other);
+    for (uint64_t r = residue_of(l->residues[i], step); r < m; r += step)
+        if (r % other == rest)
             return 1;
     return 0;
 }
 
-static int faulty(uint32_t p, uint32_t n, const list *l, size_t i)
+fault fault_at(uint32_t p, uint32_t n, const list *l, size_t i, int marked)
 {
-    if (l->levels[i] > n || l->residues[i] >= power(p, l->levels[i]))
-        return 1;
-    if (i > 0 && l->residues[i] <= l->residues[i - 1])
-        return 1;
+    int64_t z = l->residues[i];
+    if (l->levels[i] > n)
+        return HIGH_LEVEL;
+    if (below_range(z, power(p, l->levels[i])))
+        return LOW_RESIDUE;
+    if (above_range(z, power(p, l->levels[i])))
+        return HIGH_RESIDUE;
+    if (i > 0 && z <= l->residues[i - 1])
+        return z == l->residues[i - 1] ? EQUAL_RESIDUE : FALLING_RESIDUE;
     for (size_t j = 0; j < i; j++)
         if (share(p, n, l, i, j))
-            return 1;
-    return 0;
+            return l->levels[i] > l->levels[j] ? INSIDE : AROUND;
+    return marked && l->marks[i] > 2 ? HIGH_MARK : SOUND;
 }
 
 refusal refused_list(uint32_t p, uint32_t n, const list *l, size_t residues, size_t levels, const size_t *marks)
@@ -127,7 +143,7 @@ refusal refused_list(uint32_t p, uint32_t n, const list *l, size_t residues, siz
         return (refusal){6, third < least ? third : least};
     }
     for (size_t i = 0; i < residues; i++)
-        if (faulty(p, n, l, i) || (marks && l->marks[i] > 2))
+        if (fault_at(p, n, l, i, marks != NULL) != SOUND)
             return (refusal){7, i};
     return none;
 }
@@ -137,9 +153,23 @@ void fill_members(uint32_t p, uint32_t n, list *l)
     uint64_t m = power(p, n);
     memset(l->member, 0, sizeof l->member);
     l->members = 0;
-    for (size_t i = 0; i < l->k; i++)
-        for (uint64_t r = l->residues[i]; r < m; r += power(p, l->levels[i])) {
+    for (size_t i = 0; i < l->k; i++) {
+        uint64_t step = power(p, l->levels[i]);
+        for (uint64_t r = residue_of(l->residues[i], step); r < m; r += step) {
             l->member[r] = 1;
             l->members++;
         }
+    }
+}
+
+uint64_t next_by_trial(uint32_t p, uint32_t n, const list *l, uint64_t point)
+{
+    uint64_t m = power(p, n), next = m;
+    for (size_t i = 0; i < l->k; i++) {
+        uint64_t step = power(p, l->levels[i]);
+        for (uint64_t r = residue_of(l->residues[i], step); r < m; r += step)
+            if (r >= point && r < next)
+                next = r;
+    }
+    return next;
 }

@@ -1,4 +1,4 @@
-/* Plain trial: what the library must answer, worked out by going through all residues. */
+/* Plain trial: what the library must answer, worked out by going through all residues or all members of the classes. */
 #ifndef REFERENCE_H
 #define REFERENCE_H
 
@@ -16,12 +16,26 @@ typedef struct {
 /* A list of classes with its members. */
 typedef struct {
     size_t k;
-    uint32_t residues[MOST];
+    int32_t residues[MOST];
     uint8_t levels[MOST];
     uint8_t marks[MOST];
     uint8_t member[MOST];
     uint64_t members;
 } list;
+
+/* What rule 7 looks for in an entry, in this order. INSIDE and AROUND: it lies in an earlier entry, or has one inside it. */
+typedef enum {
+    SOUND,
+    HIGH_LEVEL,
+    LOW_RESIDUE,
+    HIGH_RESIDUE,
+    EQUAL_RESIDUE,
+    FALLING_RESIDUE,
+    INSIDE,
+    AROUND,
+    HIGH_MARK,
+    FAULTS
+} fault;
 
 /* p to the power n, or 0 where that exceeds 4294967295. */
 uint64_t power(uint32_t p, uint32_t n);
@@ -29,13 +43,19 @@ uint64_t power(uint32_t p, uint32_t n);
 /* Rules 4, 14 and 5. */
 refusal refused_modulus(uint32_t p, uint32_t n);
 
-/* The root classes of f: the whole classes that lie in no larger whole class, rising by residue. */
+/* The root classes of f: the whole classes that lie in no larger whole class, rising by the residue of least size. */
 void solve_by_trial(const int64_t *f, size_t count, uint32_t p, uint32_t n, list *s);
+
+/* The first fault of entry i, where the entries before it are sound; its mark is looked at where marked is not 0. */
+fault fault_at(uint32_t p, uint32_t n, const list *l, size_t i, int marked);
 
 /* Rules 4, 14, 5, 6 and 7 for a list whose two or (marks not null) three parts have these lengths. */
 refusal refused_list(uint32_t p, uint32_t n, const list *l, size_t residues, size_t levels, const size_t *marks);
 
 /* Sets the members of an accepted list. */
 void fill_members(uint32_t p, uint32_t n, list *l);
+
+/* The least member of an accepted list at or after the point, or p^n where there is none. */
+uint64_t next_by_trial(uint32_t p, uint32_t n, const list *l, uint64_t point);
 
 #endif

@@ -1,4 +1,4 @@
-/* wimpleclay_solve and wimpleclay_is_root on drawn polynomials, against trial. */
+/* wimpleclay_solve, wimpleclay_next_root on its lists and wimpleclay_is_root, on drawn polynomials, against trial. */
 #include "check.h"
 #include "reference.h"
 #include "tests.h"
@@ -11,7 +11,7 @@ static list s;
 /* Calls the solver with lists of this many slots. */
 static void solve_into(const loan *f, size_t count, uint32_t p, uint32_t n, size_t slots)
 {
-    loan residues = lend(NULL, slots * sizeof(uint32_t)), levels = lend(NULL, slots), marks = lend(NULL, slots);
+    loan residues = lend(NULL, slots * sizeof *s.residues), levels = lend(NULL, slots), marks = lend(NULL, slots);
     wimpleclay_solve_answer a =
         wimpleclay_solve(lent(f), count, p, n, lent(&residues), slots, lent(&levels), slots, lent(&marks), slots);
     size_t k = slots < s.k ? 0 : s.k;
@@ -19,16 +19,31 @@ static void solve_into(const loan *f, size_t count, uint32_t p, uint32_t n, size
         expect(a.number == 11 && a.place == s.k && a.classes == 0 && a.roots == 0, "solve: too few slots");
     } else {
         expect(a.number == 0 && a.place == 0 && a.classes == s.k && a.roots == s.members, "solve: k and root count");
-        expect(memcmp(lent(&residues), s.residues, k * sizeof(uint32_t)) == 0, "solve: residues");
+        expect(memcmp(lent(&residues), s.residues, k * sizeof *s.residues) == 0, "solve: residues");
         expect(memcmp(lent(&levels), s.levels, k) == 0, "solve: levels");
         expect(memcmp(lent(&marks), s.marks, k) == 0, "solve: marks");
     }
-    expect(kept_from(&residues, k * sizeof(uint32_t)) && kept_from(&levels, k) && kept_from(&marks, k),
+    expect(kept_from(&residues, k * sizeof *s.residues) && kept_from(&levels, k) && kept_from(&marks, k),
            "solve: other memory is kept");
     expect(kept_from(f, 0), "solve: coefficients are kept");
     end_loan(&residues);
     end_loan(&levels);
     end_loan(&marks);
+}
+
+/* Steps through the roots, from the point 0 on. */
+static void step_through(uint32_t p, uint32_t n, uint32_t m)
+{
+    uint32_t point = 0;
+    for (uint32_t r = 0; r < m; r++) {
+        if (!s.member[r])
+            continue;
+        wimpleclay_next_answer a = wimpleclay_next_root(p, n, s.residues, s.k, s.levels, s.k, point);
+        expect(a.number == 0 && a.found == 1 && a.root == r, "next_root: each root in turn");
+        point = r + 1;
+    }
+    wimpleclay_next_answer a = wimpleclay_next_root(p, n, s.residues, s.k, s.levels, s.k, point);
+    expect(a.number == (point == m ? 8 : 0) && a.found == 0 && a.root == 0, "next_root: no root after the last");
 }
 
 static void test_polynomial(const int64_t *coefficients, size_t count, uint32_t p, uint32_t n)
@@ -41,6 +56,7 @@ static void test_polynomial(const int64_t *coefficients, size_t count, uint32_t 
     solve_into(&f, count, p, n, s.k + 1 + draw(5));
     if (s.k > 0)
         solve_into(&f, count, p, n, draw(s.k));
+    step_through(p, n, m);
     for (uint32_t r = 0; r < m; r += 1 + (uint32_t)draw(1 + m / 16)) {
         wimpleclay_test_answer a = wimpleclay_is_root(lent(&f), count, p, n, r);
         expect(a.number == 0 && a.place == 0 && a.root == s.member[r], "is_root: agrees with trial");

@@ -1,6 +1,6 @@
 /* wimpleclay_write_classes and wimpleclay_read_problem on drawn lists and texts, sound and damaged. */
 #include "check.h"
-#include "reference.h"
+#include "drawn.h"
 #include "tests.h"
 
 #include <inttypes.h>
@@ -12,31 +12,22 @@
 
 static list l;
 
-/* The k classes 0, 1, 2, ... of level n, with a fault now and then. */
-static void draw_list(uint32_t p, uint32_t n)
-{
-    l.k = draw(1 + power(p, n)) % 20;
-    for (size_t i = 0; i < l.k; i++) {
-        l.residues[i] = (uint32_t)(i + (draw(60) == 0));
-        l.levels[i] = (uint8_t)(n + (draw(90) == 0));
-        l.marks[i] = (uint8_t)(draw(90) == 0 ? 3 : draw(3));
-    }
-}
-
 static size_t print_list(uint32_t p, uint32_t n, char *text)
 {
-    fill_members(p, n, &l);
-    size_t at = (size_t)sprintf(text, "%11" PRIu32 "%11" PRIu32 "%11zu%11" PRIu64 "\n", p, n, l.k, l.members);
+    uint64_t members = 0;
     for (size_t i = 0; i < l.k; i++)
-        at += (size_t)sprintf(text + at, "%11" PRIu32 "%11d%11" PRIu64 "%11d\n", l.residues[i], l.levels[i],
+        members += power(p, n - l.levels[i]);
+    size_t at = (size_t)sprintf(text, "%11" PRIu32 "%11" PRIu32 "%11zu%11" PRIu64 "\n", p, n, l.k, members);
+    for (size_t i = 0; i < l.k; i++)
+        at += (size_t)sprintf(text + at, "%11" PRId32 "%11d%11" PRIu64 "%11d\n", l.residues[i], l.levels[i],
                               power(p, n - l.levels[i]), l.marks[i]);
     return at;
 }
 
 static void test_writer(uint32_t p, uint32_t n)
 {
-    char expected[WIMPLECLAY_TEXT_BYTES(20) + 1];
-    draw_list(p, n);
+    char expected[WIMPLECLAY_TEXT_BYTES(MOST_ENTRIES) + 1];
+    draw_list(p, n, &l, 1);
     size_t needed = WIMPLECLAY_TEXT_BYTES(l.k), room = needed + draw(50) - (draw(5) == 0) * (1 + draw(45));
     size_t third = l.k + (draw(20) == 0);
     loan residues = lend(l.residues, l.k * sizeof *l.residues), levels = lend(l.levels, l.k),
@@ -165,4 +156,9 @@ void test_texts(void)
         test_writer(3, 1 + (uint32_t)draw(6));
         test_drawn_text();
     }
+    for (int i = 0; i < 100; i++) {
+        test_writer(2, 31);
+        test_writer(65521, 2);
+    }
+    expect_every_fault(1);
 }

@@ -1,16 +1,16 @@
 -- Signed words: what the machine's reading of a word's bits says of the integer in it.
-use mathlib.Core.Path.{_≡_, refl, sym, ap, _∙_}
+use mathlib.Core.Path.{_≡_, refl, sym, ap, ap₂, _∙_}
 use mathlib.Core.Bool.{true, false, false≢true, true≢false}
 use Prim.Native.Nat.{ℕ, _+_, _-_, _≤_, _<_, _^_}
 use native.Mathlib.Omega.{arith}
 use borrow.Author.Tests.{le-ltb}
-use lib.IntN.{ℤ, pos, negsuc}
+use lib.IntN.{ℤ, pos, negsuc, negℤ, subℕ, _-ℤ_}
 use lib.Signed.{mag, ltZ}
 use mir.Syntax.{Width, w32, w64}
 use mir.Val.{SFits, toZ, ofZ}
 use mir.ValLaws.{toZ-pos, toZ-ofZ}
 use Rattle.theory.specs.Centered.{isCentered}
-use Rattle.theory.proofs.Numbers.Integers.{up, down, Is}
+use Rattle.theory.proofs.Numbers.Integers.{up, down, Is, is-unique, difference-is, sum-is, opposite-is}
 use Rattle.theory.proofs.Signed.Centered.{in-range}
 
 -- x is s k, and a word of 64 bits reads as k
@@ -38,6 +38,28 @@ pub difference-fits : (z : ℤ) (a b : ℕ) → Is z a b → a < 2 ^ 63 → b < 
 unfolding up down
 difference-fits (pos k) a b e ha hb = record { sfits = omega arith }
 difference-fits (negsuc k) a b e ha hb = record { sfits = omega arith }
+
+-- and one between −2^31 and 2^31 − 1 within 32
+pub narrow-difference : (z : ℤ) (a b : ℕ) → Is z a b → a < b + 2147483648 → b ≤ a + 2147483648 → SFits w32 z
+unfolding up down
+narrow-difference (pos k) a b e ha hb = record { sfits = omega arith }
+narrow-difference (negsuc k) a b e ha hb = record { sfits = omega arith }
+
+-- the difference of two numbers below 2^63, as it is read
+module _ (a b : ℕ) (ha : a < 2 ^ 63) (hb : b < 2 ^ 63) where
+  abbrev pub difference : ℤ
+  difference = toZ w64 a -ℤ toZ w64 b
+
+  parts : Is (pos a -ℤ pos b) a b
+  unfolding up down
+  parts = omega (arith, sum-is (pos a) (negℤ (pos b)), opposite-is (pos b))
+
+  pub difference-read : difference ≡ subℕ a b
+  difference-read =
+      ap₂ _-ℤ_ (toZ-pos w64 a ha) (toZ-pos w64 b hb) ∙ is-unique (pos a -ℤ pos b) (subℕ a b) a b parts (difference-is a b)
+
+  pub difference-read-fits : SFits w64 difference
+  difference-read-fits = rw difference-read (difference-fits (subℕ a b) a b (difference-is a b) ha hb)
 
 -- two numbers are equal if their words are
 pub word-equal : (w : Width) (y z : ℤ) → SFits w y → SFits w z → ofZ w y ≡ ofZ w z → y ≡ z

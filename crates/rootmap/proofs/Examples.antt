@@ -2,6 +2,7 @@
 use mathlib.Core.Path.{_≡_, refl}
 use mathlib.Core.List.{[], _∷_}
 use Prim.Native.Nat.{ℕ}
+use lib.IntN.{pos, negsuc}
 use Rattle.theory.specs.Prime.{isComposite}
 use Rattle.theory.specs.Examples.{firstMap}
 use Rattle.refusal.specs.declared.Refusal.the-variants.{MapTooLarge}
@@ -9,8 +10,9 @@ use Rattle.rootmap.specs.declared.Mapped.the-variants.{Filled, Refused}
 use Rattle.rootmap.specs.declared.Counted.the-variants.{Ones}
 use Rattle.rootmap.specs.Map.{mappedOf, mapFilled, countedOf}
 
--- "Its map is the bytes 130, 130", whatever the map held, and it has four ones
-pub first-map : (x y : ℕ) → mapFilled 2 4 (1 ∷ 7 ∷ []) (3 ∷ 3 ∷ []) (x ∷ y ∷ []) ≡ firstMap
+-- "Its map is the bytes 130, 130", whatever the map held, and it has four ones; 02, 2.7: "01's printed case becomes residues −1, then 1,
+-- each of level 3"
+pub first-map : (x y : ℕ) → mapFilled 2 4 (negsuc 0 ∷ pos 1 ∷ []) (3 ∷ 3 ∷ []) (x ∷ y ∷ []) ≡ firstMap
 unfolding isComposite mapFilled
 first-map x y = refl
 

@@ -1,47 +1,50 @@
 -- The members of a list of classes, entry after entry.
 use mathlib.Core.Path.{_≡_, sym, ap, _∙_}
 use mathlib.Core.Bool.{Bool, false, _&&_, _||_}
-use mathlib.Core.List.{List, [], _∷_}
-use Prim.Native.Nat.{ℕ, zero, suc, _+_, _≤_, _<_}
-use native.Mathlib.Numerals.{add-one}
+use mathlib.Core.List.{List}
+use Prim.Native.Nat.{ℕ, _+_, _≤_, _<_}
 use native.Mathlib.Omega.{arith}
 use lib.Dec.{ltb}
-use lib.ListN.{length, getD, take}
+use lib.IntN.{ℤ, pos}
+use lib.ListN.{length, length-map, getD, take}
 use lib.Seq.{take-all}
-use Rattle.theory.specs.Class.{class, isMember}
-use Rattle.theory.specs.ClassList.{members}
+use Rattle.theory.specs.Class.{Class, class, isMember}
+use Rattle.theory.specs.ClassList.{slot, members}
+use Rattle.theory.specs.SignedClass.{signedClass, natural, naturals}
+use Rattle.theory.proofs.Tests.{and-none, and-or}
+use Rattle.theory.proofs.Lists.Fill.{take-next}
+use Rattle.theory.proofs.Classes.Members.{members-snoc}
 use Rattle.classes.specs.Rule7.{classesOf}
-use Rattle.theory.proofs.Tests.{or-none, or-assoc, and-none, and-or}
+use Rattle.classes.proofs.Entries.{classes-same-length, classes-slot, natural-slot}
 
 -- r is below m and a member of one of the first i entries
-abbrev pub listedBelow : ℕ → List ℕ → List ℕ → ℕ → ℕ → ℕ → Bool
-listedBelow p rs ts m i r = ltb r m && members p (classesOf (take i rs) (take i ts)) r
+abbrev pub listedBelow : ℕ → List Class → ℕ → ℕ → ℕ → Bool
+listedBelow p L m i r = ltb r m && members p (take i L) r
 
-entry-next : (p : ℕ) (rs ts : List ℕ) (r i : ℕ) → i < length rs → i < length ts
-    → (members p (classesOf (take i rs) (take i ts)) r || isMember p (class (getD rs i 0) (getD ts i 0)) r)
-    ≡ members p (classesOf (take (suc i) rs) (take (suc i) ts)) r
-unfolding members classesOf
-entry-next p [] ts r i h k = absurd (omega arith)
-entry-next p (a ∷ rs) [] r i h k = absurd (omega arith)
-entry-next p (a ∷ rs) (t ∷ ts) r zero h k = sym (or-none (isMember p (class a t) r))
-entry-next p (a ∷ rs) (t ∷ ts) r (suc i) h k =
-    or-assoc (isMember p (class a t) r) (members p (classesOf (take i rs) (take i ts)) r)
-    (isMember p (class (getD rs i 0) (getD ts i 0)) r)
-    ∙ ap (λ (b : Bool). isMember p (class a t) r || b) (entry-next p rs ts r i (omega arith) (omega arith))
-
-pub listed-none : (p : ℕ) (rs ts : List ℕ) (m r : ℕ) → listedBelow p rs ts m 0 r ≡ false
-unfolding members classesOf
-listed-none p rs ts m r = and-none (ltb r m)
+pub listed-none : (p : ℕ) (L : List Class) (m r : ℕ) → listedBelow p L m 0 r ≡ false
+unfolding members
+listed-none p L m r = and-none (ltb r m)
 
 -- one entry more
-pub listed-next : (p : ℕ) (rs ts : List ℕ) (m i r : ℕ) → i < length rs → i < length ts
-    → (listedBelow p rs ts m i r || (ltb r m && isMember p (class (getD rs i 0) (getD ts i 0)) r)) ≡ listedBelow p rs ts m (i + 1) r
-listed-next p rs ts m i r h k =
-    and-or (ltb r m) (members p (classesOf (take i rs) (take i ts)) r) (isMember p (class (getD rs i 0) (getD ts i 0)) r)
-    ∙ ap (λ (b : Bool). ltb r m && b) (entry-next p rs ts r i h k)
-    ∙ ap (λ (j : ℕ). listedBelow p rs ts m j r) (sym (add-one i))
+pub listed-next : (p : ℕ) (L : List Class) (m i r : ℕ) → i < length L
+    → (listedBelow p L m i r || (ltb r m && isMember p (slot L i) r)) ≡ listedBelow p L m (i + 1) r
+listed-next p L m i r h =
+    and-or (ltb r m) (members p (take i L) r) (isMember p (slot L i) r)
+    ∙ ap (λ (b : Bool). ltb r m && b) (sym (members-snoc p (take i L) (slot L i) r))
+    ∙ ap (λ (l : List Class). ltb r m && members p l r) (sym (take-next L i (class 0 0) h))
 
 -- all entries
-pub listed-all : (p : ℕ) (rs ts : List ℕ) (m i r : ℕ) → length rs ≤ i → length ts ≤ i
-    → listedBelow p rs ts m i r ≡ (ltb r m && members p (classesOf rs ts) r)
-listed-all p rs ts m i r h k = rw (take-all i rs h, take-all i ts k)
+pub listed-all : (p : ℕ) (L : List Class) (m i r : ℕ) → length L ≤ i → listedBelow p L m i r ≡ (ltb r m && members p L r)
+listed-all p L m i r h = rw (take-all i L h)
+
+-- A lent list, as 01's classes
+
+module _ (p : ℕ) (residues : List ℤ) (levels : List ℕ) (same : length residues ≡ length levels) where
+  pub lent-length : length (naturals p (classesOf residues levels)) ≡ length residues
+  lent-length = length-map (classesOf residues levels) (natural p) ∙ classes-same-length residues levels same
+
+  pub lent-slot : (i : ℕ) → i < length residues
+      → slot (naturals p (classesOf residues levels)) i ≡ natural p (signedClass (getD residues i (pos 0)) (getD levels i 0))
+  lent-slot i h =
+      natural-slot p (classesOf residues levels) i (omega (arith, classes-same-length residues levels same))
+      ∙ ap (natural p) (classes-slot residues levels i h (omega arith))

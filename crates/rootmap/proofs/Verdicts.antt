@@ -5,6 +5,7 @@ use Prim.Native.Nat.{ℕ, _^_, _≤_, _<_}
 use native.Mathlib.Omega.{arith}
 use borrow.Author.Tests.{ltb-false, eqb-true, not-false}
 use lib.Dec.{eqb, ltb}
+use lib.IntN.{ℤ}
 use mathlib.Core.Bool.{not}
 use Rattle.theory.specs.RootMap.{mapLength}
 use Rattle.refusal.specs.declared.Refusal.{Refusal}
@@ -65,7 +66,7 @@ sized-after [] x bytes = refl
 sized-after (passes ∷ rules) x bytes = sized-after rules x bytes
 sized-after (refuses r ∷ rules) x bytes = refl
 
-module _ (p n : ℕ) (residues levels : List ℕ) (bytes : ℕ) where
+module _ (p n : ℕ) (residues : List ℤ) (levels : List ℕ) (bytes : ℕ) where
   sized-map : sizedOf (checkedOf p n residues levels) bytes ≡ powerOr (mapVerdict p n residues levels bytes) (p ^ n)
   unfolding checkedOf mapVerdict
   sized-map = sized-after (givenRules p n residues levels) (p ^ n) bytes

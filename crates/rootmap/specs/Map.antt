@@ -1,8 +1,10 @@
 -- The root map of a given list, and a map's count (01, "Lent lists, map and text" and "When the solver declines").
 use mathlib.Core.List.{List, [], _∷_, _++_}
 use Prim.Native.Nat.{ℕ, _^_}
+use lib.IntN.{ℤ}
 use lib.ListN.{length}
 use Rattle.theory.specs.RootMap.{mapLength, rootMap, ones}
+use Rattle.theory.specs.SignedClass.{natural, naturals}
 use Rattle.refusal.specs.Rules.{Verdict, passes, refuses, tried, filled, rule9, rule10}
 use Rattle.numbers.specs.Modulus.{modulusRules}
 use Rattle.classes.specs.Rule7.{classesOf}
@@ -19,7 +21,7 @@ sizeRules m bytes = rule9 m ∷ rule10 bytes (mapLength m) ∷ []
 -- The map
 
 -- the rules of the map of a list, given the map's length
-unfoldable pub mapVerdict : ℕ → ℕ → List ℕ → List ℕ → ℕ → Verdict
+unfoldable pub mapVerdict : ℕ → ℕ → List ℤ → List ℕ → ℕ → Verdict
 unfolding givenRules mapLength
 mapVerdict p n residues levels bytes = tried (givenRules p n residues levels ++ sizeRules (p ^ n) bytes)
 
@@ -29,15 +31,15 @@ filledOr passes = mapped.Filled
 filledOr (refuses r) = mapped.Refused r
 
 -- the answer to a call for the map
-unfoldable pub mappedOf : ℕ → ℕ → List ℕ → List ℕ → ℕ → Mapped
+unfoldable pub mappedOf : ℕ → ℕ → List ℤ → List ℕ → ℕ → Mapped
 unfolding mapVerdict
 mappedOf p n residues levels bytes = filledOr (mapVerdict p n residues levels bytes)
 
 -- what the lent map holds after the call: "one bit a residue", "spare high bits of the last byte are zero"
-unfoldable pub mapFilled : ℕ → ℕ → List ℕ → List ℕ → List ℕ → List ℕ
-unfolding mapVerdict classesOf rootMap
+unfoldable pub mapFilled : ℕ → ℕ → List ℤ → List ℕ → List ℕ → List ℕ
+unfolding mapVerdict classesOf natural rootMap
 mapFilled p n residues levels old =
-    filled (mapVerdict p n residues levels (length old)) (rootMap p n (classesOf residues levels)) old
+    filled (mapVerdict p n residues levels (length old)) (rootMap p n (naturals p (classesOf residues levels))) old
 
 -- The count
 

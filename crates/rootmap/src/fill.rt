@@ -4,8 +4,9 @@ ghost use mathlib.Core.Bool.{_&&_};
 ghost use Prim.Native.Nat.{ℕ, _*_, _%_, _^_, _≤_, _<_};
 ghost use lib.Dec.{eqb, ltb};
 ghost use lib.ListN.{length, getD};
-ghost use Rattle.theory.specs.Class.{class, isMember};
+ghost use Rattle.theory.specs.Class.{isMember};
 ghost use Rattle.theory.specs.ClassList.{members};
+ghost use Rattle.theory.specs.SignedClass.{signedClass, natural, naturals};
 ghost use Rattle.rootmap.specs.inner.Bits.{Added};
 ghost use Rattle.classes.specs.Rule7.{classesOf};
 ghost use Rattle.classes.specs.inner.Usable.{UsableList};
@@ -34,19 +35,20 @@ fn set_members(a: usize, q: usize, m: usize, map: &mut [u8])
     }
 }
 
-// Sets the bits of the members below m of the class a/t.
-fn set_class(p: u32, a: u32, t: u8, m: usize, map: &mut [u8])
-    requires { ⌜ (a < p ^ t) × (p ^ t ≤ 4294967295) × (m ≤ 524288) × (m ≤ 8 * length (now map)) ⌝ }
-    ensures { λ _. ⌜ Added (λ r. ltb r m && isMember p (class a t) r) (now (map .entry)) (now (map .exit)) ⌝ }
+// Sets the bits of the members below m of the class a/t, the first of which is a modulo p^t.
+fn set_class(p: u32, a: i32, t: u8, m: usize, map: &mut [u8])
+    requires { ⌜ (0 < p) × (p ^ t ≤ 4294967295) × (m ≤ 524288) × (m ≤ 8 * length (now map)) ⌝ }
+    ensures { λ _. ⌜ Added (λ r. ltb r m && isMember p (natural p (signedClass a t)) r) (now (map .entry)) (now (map .exit)) ⌝ }
 {
     let q = numbers::power(p, t as u32);
-    set_members(a as usize, q as usize, m, map);
+    let r = numbers::reduce(a as i64, q);
+    set_members(r as usize, q as usize, m, map);
 }
 
 // Sets the bits of the members below m of all classes.
-pub(crate) fn set_classes(p: u32, n: u32, residues: &[u32], levels: &[u8], m: usize, map: &mut [u8])
+pub(crate) fn set_classes(p: u32, n: u32, residues: &[i32], levels: &[u8], m: usize, map: &mut [u8])
     requires { ⌜ UsableList p n (now residues) (now levels) m × (m ≤ 524288) × (m ≤ 8 * length (now map)) ⌝ }
-    ensures { λ _. ⌜ Added (λ r. ltb r m && members p (classesOf (now (residues .entry)) (now (levels .entry))) r)
+    ensures { λ _. ⌜ Added (λ r. ltb r m && members p (naturals p (classesOf (now (residues .entry)) (now (levels .entry)))) r)
         (now (map .entry)) (now (map .exit)) ⌝ }
 {
     let mut i: usize = 0;

@@ -24,7 +24,7 @@ pub enum Counted {
 
 // The root map of a list of classes: bit r of the map is 1 exactly if the residue r is a member of a class. Every byte of the map is
 // written, whatever it held. Rules 4, 14, 5, 6, 7, 9 and 10; a refusal alters nothing.
-pub fn fill_map(p: u32, n: u32, residues: &[u32], levels: &[u8], map: &mut [u8]) -> Mapped
+pub fn fill_map(p: u32, n: u32, residues: &[i32], levels: &[u8], map: &mut [u8]) -> Mapped
     ensures answer { λ r. ⌜ r ≡ mappedOf p n (now (residues .entry)) (now (levels .entry)) (length (now (map .entry))) ⌝ }
     ensures map { λ _. ⌜ now (map .exit) ≡ mapFilled p n (now (residues .entry)) (now (levels .entry)) (now (map .entry)) ⌝ }
 {

@@ -8,8 +8,7 @@ use lib.IntN.{ℤ}
 use lib.ListN.{length, length-map, length-take, take, drop}
 use lib.Seq.{take-at}
 use Rattle.theory.specs.Polynomial.{roots}
-use Rattle.theory.specs.Class.{Class}
-use Rattle.theory.specs.ClassList.{residuesOf, levelsOf}
+use Rattle.theory.specs.SignedClass.{SignedClass, natural, residuesOf, levelsOf}
 use Rattle.theory.specs.Mark.{mark}
 use Rattle.theory.specs.Shortest.{count}
 use Rattle.refusal.specs.declared.Refusal.{Refusal}
@@ -60,7 +59,7 @@ module _ (f : List ℤ) (p n : ℕ) (given : Lists) where
     found-count = known .2
 
     -- the first k slots of a list that was filled
-    front : (h : Class → ℕ) (old : List ℕ)
+    front : {A : Type 0} (h : SignedClass → A) (old : List A)
         → take k (filled (solverVerdict f p n given) (map h (solution f p n)) old) ≡ map h (solution f p n)
     front h old =
         let l = map h (solution f p n) in
@@ -68,18 +67,18 @@ module _ (f : List ℤ) (p n : ℕ) (given : Lists) where
 
     pub found-residues : take k (listsAfter f p n given .residues) ≡ residuesOf (solution f p n)
     unfolding listsAfter
-    found-residues = front (λ (x : Class). x .residue) (given .residues)
+    found-residues = front (λ (x : SignedClass). x .residue) (given .residues)
 
     pub found-levels : take k (listsAfter f p n given .levels) ≡ levelsOf (solution f p n)
     unfolding listsAfter
-    found-levels = front (λ (x : Class). x .level) (given .levels)
+    found-levels = front (λ (x : SignedClass). x .level) (given .levels)
 
     pub found-marks : take k (listsAfter f p n given .marks) ≡ marksOf f p n
     unfolding listsAfter
-    found-marks = front (mark f p n) (given .marks)
+    found-marks = front (λ (x : SignedClass). mark f p n (natural p x)) (given .marks)
 
     -- each list has k slots
-    pub found-long : (h : Class → ℕ) (l : List ℕ) → take k l ≡ map h (solution f p n) → k ≤ length l
+    pub found-long : {A : Type 0} (h : SignedClass → A) (l : List A) → take k l ≡ map h (solution f p n) → k ≤ length l
     found-long h l q =
         let long : length (take k l) ≡ k = ap length q ∙ length-map (solution f p n) h ∙ sym found-number in
         omega (arith, long, length-take k l, min-le-right k (length l))

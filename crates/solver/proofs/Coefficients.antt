@@ -10,7 +10,7 @@ use Rattle.theory.specs.Prime.{divides}
 use Rattle.theory.specs.Polynomial.{reduce, reduced, roots, zeros, value}
 use Rattle.theory.proofs.Numbers.Power.{pow-pos}
 use Rattle.theory.proofs.Numbers.Prime.{prime-pos}
-use Rattle.theory.proofs.Polynomials.Signed.{reduce-lt}
+use Rattle.theory.proofs.Numbers.Reduction.{reduce-lt}
 use Rattle.numbers.specs.inner.Usable.{Usable}
 use Rattle.solver.specs.inner.Table.{Below}
 

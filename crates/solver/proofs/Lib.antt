@@ -8,6 +8,7 @@ mod Zeros
 mod Marks
 mod Linear
 mod FiniteDifferences
+mod Biased
 mod Codes
 mod Appended
 mod Node

@@ -4,11 +4,12 @@ use Prim.Native.Nat.{ℕ, suc, _+_, _-_, _*_, _^_, _≤_, _<_}
 use native.Mathlib.Nat.{mul-le-mul-left, pow-le-pow-right, pow-suc}
 use native.Mathlib.Omega.{arith}
 use Rattle.theory.specs.Class.{Class, class}
+use Rattle.theory.specs.Centered.{centered}
+use Rattle.theory.specs.SignedClass.{signedClass, signed}
 use Rattle.theory.specs.inner.Tree.{deeper}
 use Rattle.theory.proofs.Numbers.Power.{exponent-lt}
 use Rattle.theory.proofs.Classes.Equal.{class-equal}
 use Rattle.solver.specs.declared.tree.Node.{Node}
-use Rattle.solver.specs.inner.Code.{code}
 use Rattle.solver.specs.inner.Recursion.{IsNode, childAt, within}
 
 module _ {p : ℕ} {x : Node} (N : IsNode p x) where
@@ -23,8 +24,8 @@ module _ {p : ℕ} {x : Node} (N : IsNode p x) where
       omega (arith, N .power-is, N .fits, pow-le-pow-right {n = p} pos {i = x .level} {j = x .level + x .left} (omega arith))
 
   -- so its class has a code
-  pub class-fits : (x .residue < 4294967296) × (x .level < 256)
-  class-fits = (omega (arith, N .residue-fits, power-le), omega (arith, level-lt))
+  pub class-fits : (x .residue < x .power) × (x .power ≤ 4294967295) × (x .level < 256)
+  class-fits = (N .residue-fits, power-le, omega (arith, level-lt))
 
   pub child-node : {c : ℕ} → 0 < x .left → c < p → IsNode p (childAt x p c)
   child-node {c} deep c-lt =
@@ -43,6 +44,10 @@ unfolding within deeper
 within-child x p c e = class-equal (omega arith) (omega arith)
 
 -- the node's class itself
-pub own-code : (x : Node) → code (within x (class 0 0)) ≡ x .residue * 256 + x .level
-unfolding code within
-own-code x = omega arith
+pub own-class : (x : Node) (p : ℕ) → x .power ≡ p ^ x .level
+    → signed p (within x (class 0 0)) ≡ signedClass (centered (x .power) (x .residue)) (x .level)
+unfolding signed within
+own-class x p e =
+    let level : x .level + 0 ≡ x .level = omega arith in
+    let residue : x .residue + x .power * 0 ≡ x .residue = omega arith in
+    rw (level, residue, e)

@@ -11,6 +11,7 @@ use Rattle.theory.specs.Range.{allBelow, passing}
 use Rattle.theory.specs.Polynomial.{vanishes, zeros}
 use Rattle.theory.specs.Degree.{every}
 use Rattle.theory.specs.Class.{Class}
+use Rattle.theory.specs.SignedClass.{signed}
 use Rattle.theory.specs.inner.Tree.{tree, branch, deeper}
 use Rattle.theory.specs.inner.Polynomial.{taylor}
 use Rattle.theory.proofs.Tests.{contradiction}
@@ -36,7 +37,7 @@ use Rattle.solver.proofs.Zeros.{degree-modulo, vanishes-on}
 -- the classes of S below these digits are added, and `all` says whether each digit holds all
 pub record Scanned (S : ℕ → Bool) (p : ℕ) (x : Node) (k : ℕ) (digits : List ℕ) (at : ℕ) (all : Bool) (out out′ : List ℕ) : Type 0 where
   pub long : length out′ ≡ length out
-  pub added : Appended (codesWithin x (flat (below S p (x .left - 1)) digits)) k at out out′
+  pub added : Appended (codesWithin p x (flat (below S p (x .left - 1)) digits)) k at out out′
   pub whole : all ≡ every (λ c. allBelow (branch S p c) (p ^ (x .left - 1))) digits
 
 module _ (S : ℕ → Bool) (p : ℕ) (x : Node) (k : ℕ) where
@@ -46,17 +47,18 @@ module _ (S : ℕ → Bool) (p : ℕ) (x : Node) (k : ℕ) where
 
   -- the codes below one digit more
   codes-next : (digits : List ℕ) (c : ℕ)
-      → codesWithin x (flat (below S p (x .left - 1)) digits) ++ codesWithin (childAt x p c) (tree (branch S p c) p (x .left - 1))
-      ≡ codesWithin x (flat (below S p (x .left - 1)) (digits ++ (c ∷ [])))
+      → codesWithin p x (flat (below S p (x .left - 1)) digits) ++ codesWithin p (childAt x p c) (tree (branch S p c) p (x .left - 1))
+      ≡ codesWithin p x (flat (below S p (x .left - 1)) (digits ++ (c ∷ [])))
   codes-next digits c =
       let F = below S p (x .left - 1) in
       let T = tree (branch S p c) p (x .left - 1) in
-      ap (λ (l : List ℕ). codesWithin x (flat F digits) ++ l)
-      (map-same (λ (e : Class). code (within (childAt x p c) e)) (λ (e : Class). code (within x (deeper p c e))) T
-      (λ e u. ap code (within-child x p c e))
-      ∙ sym (map-map (λ (e : Class). code (within x e)) (deeper p c) T))
-      ∙ sym (map-append (λ (e : Class). code (within x e)) (flat F digits) (F c))
-      ∙ ap (codesWithin x) (sym (flat-next F digits c))
+      let at : Class → ℕ = λ e. code (signed p (within x e)) in
+      ap (λ (l : List ℕ). codesWithin p x (flat F digits) ++ l)
+      (map-same (λ (e : Class). code (signed p (within (childAt x p c) e))) (λ (e : Class). at (deeper p c e)) T
+      (λ e u. ap (λ (d : Class). code (signed p d)) (within-child x p c e))
+      ∙ sym (map-map at (deeper p c) T))
+      ∙ sym (map-append at (flat F digits) (F c))
+      ∙ ap (codesWithin p x) (sym (flat-next F digits c))
 
   pub scanned-next : (c : ℕ) {digits : List ℕ} {at : ℕ} {all all′ : Bool} {r : Settled} {out₀ out out′ : List ℕ}
       → Scanned S p x k digits at all out₀ out → Done (branch S p c) p (childAt x p c) at r out out′ → length out′ ≡ length out
@@ -95,7 +97,7 @@ module _ {f : List ℕ} {M : PrimePower} {x : Node} (P : Primitive f M x) where
           arith,
           s .long,
           s .added .number,
-          length-map (flat F (passing (vanishes p f) c 0)) (λ (e : Class). code (within x e)),
+          length-map (flat F (passing (vanishes p f) c 0)) (λ (e : Class). code (signed p (within x e))),
           ap length (concat-digits S p (x .left - 1) hp (vanishes p f) none c),
           before-digit p (P .at .modulus .prime) (M .exponent) (x .left - 1) (degreeModulo p f) c n f (P .precise)
               (degree-modulo p f (P .nonzero)) c-lt order,

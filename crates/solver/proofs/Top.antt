@@ -8,8 +8,9 @@ use lib.ListN.{length, length-map, take, drop}
 use lib.Seq.{take-at}
 use Rattle.theory.specs.Polynomial.{zeros}
 use Rattle.theory.specs.Class.{Class}
+use Rattle.theory.specs.SignedClass.{signed}
 use Rattle.theory.specs.inner.Tree.{tree}
-use Rattle.theory.proofs.Lists.Map.{map-same}
+use Rattle.theory.proofs.Lists.Map.{map-map, map-same}
 use Rattle.theory.proofs.Classes.Equal.{class-equal}
 use Rattle.numbers.specs.inner.Usable.{Usable}
 use Rattle.solver.specs.declared.tree.PrimePower.{PrimePower}
@@ -31,9 +32,12 @@ abbrev pub everything : ℕ → Node
 everything n = record { residue = 0; power = 1; level = 0; left = n }
 
 -- it holds each class as it is
-codes-top : (n : ℕ) (L : List Class) → codesWithin (everything n) L ≡ map code L
+codes-top : (p n : ℕ) (L : List Class) → codesWithin p (everything n) L ≡ map code (map (signed p) L)
 unfolding within
-codes-top n L = map-same (λ (c : Class). code (within (everything n) c)) code L (λ c u. ap code (class-equal (omega arith) (omega arith)))
+codes-top p n L =
+    map-same (λ (c : Class). code (signed p (within (everything n) c))) (λ (c : Class). code (signed p c)) L
+    (λ c u. ap (λ (d : Class). code (signed p d)) (class-equal (omega arith) (omega arith)))
+    ∙ sym (map-map code (signed p) L)
 
 module _ {w : List ℕ} {p n m : ℕ} (U : Usable p n m) (short : length w ≤ 65) (b : Below m w) where
   pub top-at : AtNode w (over p n m) (everything n)
@@ -49,18 +53,19 @@ module _ {w : List ℕ} {p n m : ℕ} (U : Usable p n m) (short : length w ≤ 6
   top-most = most-length p (U .prime) w 64 (omega arith) short
 
   module _ {r : Settled} {out out′ : List ℕ} (d : Done (zeros w p n) p (everything n) 0 r out out′) where
-    codes : take (r .k) out′ ≡ map code (tree (zeros w p n) p n)
-    codes = d .added .entries ∙ codes-top n (tree (zeros w p n) p n)
+    codes : take (r .k) out′ ≡ map code (map (signed p) (tree (zeros w p n) p n))
+    codes = d .added .entries ∙ codes-top p n (tree (zeros w p n) p n)
 
-    number : r .k ≡ length (map code (tree (zeros w p n) p n))
-    number = d .added .number ∙ zero-add _ ∙ ap length (codes-top n (tree (zeros w p n) p n))
+    number : r .k ≡ length (map code (map (signed p) (tree (zeros w p n) p n)))
+    number = d .added .number ∙ zero-add _ ∙ ap length (codes-top p n (tree (zeros w p n) p n))
 
     pub top-few : r .k ≤ 64
     top-few =
         omega (
           arith,
           number,
-          length-map (tree (zeros w p n) p n) code,
+          length-map (map (signed p) (tree (zeros w p n) p n)) code,
+          length-map (tree (zeros w p n) p n) (signed p),
           tree-most p (U .prime) w n n (rw (← U .power) b),
           top-most,
         )

@@ -5,9 +5,9 @@ use Prim.Native.Nat.{ℕ, _^_}
 use lib.IntN.{ℤ}
 use lib.ListN.{length}
 use Rattle.theory.specs.Polynomial.{roots}
-use Rattle.theory.specs.Class.{Class}
-use Rattle.theory.specs.ClassList.{residuesOf, levelsOf}
-use Rattle.theory.specs.Shortest.{shortest, count}
+use Rattle.theory.specs.SignedClass.{SignedClass, natural, residuesOf, levelsOf}
+use Rattle.theory.specs.SignedList.{signedList}
+use Rattle.theory.specs.Shortest.{count}
 use Rattle.theory.specs.Mark.{mark}
 use Rattle.refusal.specs.Rules.{Verdict, passes, refuses, tried, filled, rule2, rule3, rule6Three, rule8, rule11}
 use Rattle.numbers.specs.Modulus.{modulusRules}
@@ -16,17 +16,17 @@ use Rattle.solver.specs.declared.Solved.the-variants.{Found, Refused}
 use Rattle.solver.specs.declared.Tested.{Tested}
 use Rattle.solver.specs.declared.Tested.the-variants as tested
 
--- "The solver fills three lists: residues (32 bits), levels and marks (8 bits each)"
+-- "The solver fills three lists: residues (32 bits), levels and marks (8 bits each)"; the residues are signed (02, 2.7)
 pub record Lists : Type 0 where
-  pub residues : List ℕ
+  pub residues : List ℤ
   pub levels : List ℕ
   pub marks : List ℕ
 
-abbrev pub lists : List ℕ → List ℕ → List ℕ → Lists
+abbrev pub lists : List ℤ → List ℕ → List ℕ → Lists
 lists residues levels marks = record { residues = residues; levels = levels; marks = marks }
 
 -- "It uses the first k slots, k being the number of classes; later slots keep their content": by the classes of L and their marks
-abbrev pub listsFilled : Verdict → List Class → List ℕ → Lists → Lists
+abbrev pub listsFilled : Verdict → List SignedClass → List ℕ → Lists → Lists
 listsFilled v L marks given =
     lists (filled v (residuesOf L) (given .residues)) (filled v (levelsOf L) (given .levels)) (filled v marks (given .marks))
 
@@ -42,12 +42,12 @@ abbrev pub polynomialRules : List ℤ → ℕ → ℕ → List Verdict
 polynomialRules f p n = rule2 (length f) ∷ rule3 (length f) ∷ modulusRules p n
 
 -- the list of f
-unfoldable pub solution : List ℤ → ℕ → ℕ → List Class
-solution f p n = shortest (roots f p n) p n
+unfoldable pub solution : List ℤ → ℕ → ℕ → List SignedClass
+solution f p n = signedList (roots f p n) p n
 
 -- and its marks
 abbrev pub marksOf : List ℤ → ℕ → ℕ → List ℕ
-marksOf f p n = map (mark f p n) (solution f p n)
+marksOf f p n = map (λ c. mark f p n (natural p c)) (solution f p n)
 
 -- the solver's rules
 unfoldable pub solverVerdict : List ℤ → ℕ → ℕ → Lists → Verdict

@@ -5,6 +5,7 @@ ghost use Rattle.solver.specs.inner.UsablePolynomial.{polynomialModulus,
 use numbers::Modulus;
 use refusal::Refusal;
 
+mod code;
 mod differences;
 mod digits;
 mod lists;
@@ -36,14 +37,14 @@ pub enum Solved {
     Refused(Refusal),
 }
 
-// The root classes of the polynomial with these coefficients, lowest degree first, modulo pⁿ: residues, levels and marks of the shortest
-// list go into the first slots of the three lists; later slots keep their content. Rules 2, 3, 4, 14, 5, 6 and 11; a refusal alters
-// nothing.
+// The root classes of the polynomial with these coefficients, lowest degree first, modulo pⁿ: residues of least size, levels and marks of
+// the shortest list go into the first slots of the three lists, rising by residue; later slots keep their content. Rules 2, 3, 4, 14, 5, 6
+// and 11; a refusal alters nothing.
 pub fn solve(
     coefficients: &[i64],
     p: u32,
     n: u32,
-    residues: &mut [u32],
+    residues: &mut [i32],
     levels: &mut [u8],
     marks: &mut [u8],
 ) -> Solved

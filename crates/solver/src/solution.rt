@@ -47,7 +47,7 @@ pub(crate) fn solve_reduced(
     p: u32,
     n: u32,
     m: u64,
-    residues: &mut [u32],
+    residues: &mut [i32],
     levels: &mut [u8],
     marks: &mut [u8],
 ) -> Solved

@@ -1,6 +1,4 @@
 // The recursion over the digits: settling a class calls the scan of its digits, which settles each child class.
-//
-// A class is kept as one number, residue × 256 + level, so that the order of the numbers is the order of the residues.
 ghost use mathlib.Core.Path.{_≡_};
 ghost use mathlib.Core.Bool.{Bool, true};
 ghost use Prim.Native.Nat.{ℕ, _+_, _^_, _≤_, _<_};
@@ -9,6 +7,7 @@ ghost use Rattle.theory.specs.Range.{allBelow};
 ghost use Rattle.theory.specs.Polynomial.{zeros as zerosOf};
 ghost use Rattle.solver.specs.inner.Table.{degreeModulo};
 ghost use Rattle.solver.specs.inner.Recursion.{IsNode, AtNode, Primitive, childAt, mostClasses, Done};
+use crate::code;
 use crate::digits;
 use crate::polynomial;
 use crate::taylor;
@@ -41,11 +40,11 @@ pub(crate) struct Settled {
 
 // Puts the node's class, which is whole, after the first k.
 fn put_whole(node: Node, out: &mut [u64], k: usize) -> Settled
-    requires { ⌜ (node .residue < 4294967296) × (node .level < 256) × (k < length (now out)) ⌝ }
-    ensures { λ r. ⌜ ((S : ℕ → Bool) (p : ℕ) → allBelow S (p ^ node .left) ≡ true
+    requires { ⌜ (node .residue < node .power) × (node .power ≤ 4294967295) × (node .level < 256) × (k < length (now out)) ⌝ }
+    ensures { λ r. ⌜ ((S : ℕ → Bool) (p : ℕ) → node .power ≡ p ^ node .level → allBelow S (p ^ node .left) ≡ true
         → Done S p node k r (now (out .entry)) (now (out .exit))) ⌝ }
 {
-    out[k] = node.residue * 256 + node.level;
+    out[k] = code::code(node.residue, node.power, node.level);
     Settled {
         k: k + 1,
         whole: true,

@@ -4,6 +4,7 @@ use native.Mathlib.Omega.{arith}
 use borrow.Author.Needs.{needs}
 use lib.ListN.{length}
 use Rattle.theory.specs.ClassList.{members}
+use Rattle.theory.specs.SignedClass.{naturals}
 use Rattle.refusal.specs.Rules.{passes, refuses}
 use Rattle.numbers.specs.declared.Modulus.{Modulus}
 use Rattle.classes.specs.Rule7.{classesOf}
@@ -25,7 +26,7 @@ check-size-requires c κs = search needs
 
 -- what all rules say
 abbrev start : tie.After-check-size → tie.Start
-start c = c .before .before .before .before .before
+start c = c .before .before .before .before
 
 answer : (c : tie.After-check-size)
     → sizedOf (checkedOf (start c .args .p) (start c .args .n) (start c .args .residues .now) (start c .args .levels .now))
@@ -71,7 +72,7 @@ returns c =
     let s = sized-accepted (checkedOf (a .p) (a .n) rs ts) (length old) (m .0 .0) (answer (b .before .before) ∙ m .1) .1 in
     let (v, q) = map-passes (a .p) (a .n) rs ts (length old) (m .0 .0) (answer (b .before .before) ∙ m .1) in
     let long : length new ≡ mapLength (m .0 .0) = e .set-classes .kept .1 .1 .1 .1 .1 .0 ∙ k .clear .kept .0 ∙ s .long in
-    let S = members (a .p) (classesOf rs ts) in
+    let S = members (a .p) (naturals (a .p) (classesOf rs ts)) in
     let full = added-to-cleared S (m .0 .0) (k .clear .last .0) new long (k .clear .ensures) (e .set-classes .ensures) in (
       mapped-is (a .p) (a .n) rs ts (length old) passes v,
       filled-is (a .p) (a .n) rs ts old new (m .0 .0) v q (s .long) full,

@@ -29,7 +29,7 @@ module _ (a : tie.Start) where
 
 module _ (c : tie.After-check-polynomial) where
   abbrev call : tie.Start
-  call = c .before .before .before .before
+  call = c .before .before .before
 
 module _ (c : tie.After-m) where
   abbrev checked : tie.After-check-polynomial
@@ -70,7 +70,7 @@ same-length-3 c = search needs
 
 returns : tie.Need-returns
 returns c =
-    let solved = c .before .before .before .before .before .before in
+    let solved = c .before .before .before .before .before in
     let row = solved .before .before .before .before in
     let m = row .before .before in
     let a = call (checked m) in

@@ -4,8 +4,8 @@ use mathlib.Core.List.{List}
 use Prim.Native.Nat.{ℕ}
 use lib.Dec.{eqb}
 use Rattle.theory.specs.Range.{allBelow}
-use Rattle.theory.specs.Polynomial.{vanishes}
-use Rattle.theory.specs.Class.{Class}
+use Rattle.theory.specs.Polynomial.{reduce, vanishes}
+use Rattle.theory.specs.SignedClass.{SignedClass}
 use Rattle.theory.specs.Mark.{markBy}
 
 -- by the value at a
@@ -17,5 +17,6 @@ abbrev pub markOfDigits : ℕ → List ℕ → ℕ
 markOfDigits p d = markBy (allBelow (λ c. not (vanishes p d c)) p) (allBelow (vanishes p d) p)
 
 -- the members of a class agree modulo p at level 1 and above, and have all digits at level 0
-unfoldable pub markFrom : ℕ → List ℕ → Class → ℕ
-markFrom p d c = elim (eqb (c .level) 0) [ true ↦ markOfDigits p d | false ↦ markAt p d (c .residue) ]
+unfoldable pub markFrom : ℕ → List ℕ → SignedClass → ℕ
+unfolding reduce
+markFrom p d c = elim (eqb (c .level) 0) [ true ↦ markOfDigits p d | false ↦ markAt p d (reduce p (c .residue)) ]

@@ -8,6 +8,7 @@ use Rattle.theory.specs.Range.{allBelow}
 use Rattle.theory.specs.Prime.{Prime}
 use Rattle.theory.specs.Degree.{degreeBound, allZero}
 use Rattle.theory.specs.Class.{Class, class}
+use Rattle.theory.specs.SignedClass.{signed}
 use Rattle.theory.specs.inner.Tree.{tree}
 use Rattle.solver.specs.declared.tree.PrimePower.{PrimePower}
 use Rattle.solver.specs.declared.tree.Node.{Node}
@@ -57,8 +58,8 @@ unfoldable pub within : Node → Class → Class
 within x c = class (x .residue + x .power * c .residue) (x .level + c .level)
 
 -- the codes of such classes
-abbrev pub codesWithin : Node → List Class → List ℕ
-codesWithin x = map (λ (c : Class). code (within x c))
+abbrev pub codesWithin : ℕ → Node → List Class → List ℕ
+codesWithin p x = map (λ (c : Class). code (signed p (within x c)))
 
 -- `new` now follows the first k entries of the scratch, which are kept: together its first k′
 pub record Appended (new : List ℕ) (k k′ : ℕ) (out out′ : List ℕ) : Type 0 where
@@ -67,5 +68,5 @@ pub record Appended (new : List ℕ) (k k′ : ℕ) (out out′ : List ℕ) : Ty
 
 -- the classes of the set S of numbers y are added, each as a code
 pub record Done (S : ℕ → Bool) (p : ℕ) (x : Node) (k : ℕ) (r : Settled) (out out′ : List ℕ) : Type 0 where
-  pub added : Appended (codesWithin x (tree S p (x .left))) k (r .k) out out′
+  pub added : Appended (codesWithin p x (tree S p (x .left))) k (r .k) out out′
   pub is-whole : r .whole ≡ allBelow S (p ^ x .left)

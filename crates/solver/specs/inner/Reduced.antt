@@ -3,16 +3,17 @@ use mathlib.Core.List.{List, map}
 use Prim.Native.Nat.{ℕ}
 use lib.ListN.{length}
 use Rattle.theory.specs.Polynomial.{zeros}
-use Rattle.theory.specs.Class.{Class}
-use Rattle.theory.specs.Shortest.{shortest, count}
+use Rattle.theory.specs.SignedClass.{SignedClass, natural}
+use Rattle.theory.specs.SignedList.{signedList}
+use Rattle.theory.specs.Shortest.{count}
 use Rattle.theory.specs.Mark.{markOf}
 use Rattle.refusal.specs.Rules.{Verdict, tried}
 use Rattle.solver.specs.declared.Solved.{Solved}
 use Rattle.solver.specs.Solve.{Lists, listRules, listsFilled, foundOr}
 
 -- the classes of the zeros modulo pⁿ
-abbrev pub zeroClasses : List ℕ → ℕ → ℕ → List Class
-zeroClasses w p n = shortest (zeros w p n) p n
+abbrev pub zeroClasses : List ℕ → ℕ → ℕ → List SignedClass
+zeroClasses w p n = signedList (zeros w p n) p n
 
 -- rules 6 and 11
 unfoldable pub reducedVerdict : List ℕ → ℕ → ℕ → Lists → Verdict
@@ -23,4 +24,4 @@ reducedSolved w p n given = foundOr (reducedVerdict w p n given) (length (zeroCl
 
 abbrev pub reducedLists : List ℕ → ℕ → ℕ → Lists → Lists
 reducedLists w p n given =
-    listsFilled (reducedVerdict w p n given) (zeroClasses w p n) (map (markOf w p n) (zeroClasses w p n)) given
+    listsFilled (reducedVerdict w p n given) (zeroClasses w p n) (map (λ c. markOf w p n (natural p c)) (zeroClasses w p n)) given

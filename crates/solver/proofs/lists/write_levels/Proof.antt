@@ -4,7 +4,7 @@ use Prim.Native.Nat.{_-_, _%_, _≤_}
 use native.Mathlib.Omega.{arith}
 use borrow.Author.Needs.{needs}
 use lib.ListN.{length, getD}
-use Rattle.theory.specs.Class.{Class}
+use Rattle.theory.specs.SignedClass.{SignedClass}
 use Rattle.theory.specs.inner.Overwritten.{Overwritten}
 use Rattle.theory.proofs.Lists.Overwritten.{written-none, written-up, written-map}
 use Rattle.solver.specs.inner.Code.{classOf}
@@ -26,7 +26,7 @@ returns : tie.Need-returns Inv-loop μ-loop
 returns c =
     let a = c .before .before .args in
     let all : c .before .loop .i ≡ length (a .codes .now) = omega arith in
-    written-map (λ (k : Class). k .level) classOf (a .codes .now) _ _ (c .before .before .pre) (rw all at (c .before .loop .inv .1))
+    written-map (λ (k : SignedClass). k .level) classOf (a .codes .now) _ _ (c .before .before .pre) (rw all at (c .before .loop .inv .1))
 
 pub write-levels-spec : {M : Type 1} → statement M
 write-levels-spec =

@@ -63,11 +63,18 @@ derivative-requires c κs =
     let positive : 0 < a .args .p = omega (arith, a .pre .2) in
     (omega arith, length-take-le _ _ (omega arith), rw (c .before .common-power .ensures) (pow-pos _ positive _), positive, a .pre .3)
 
+mark-requires : tie.Need-mark-requires Inv-loop μ-loop
+mark-requires c κs =
+    let t = c .before .before in
+    let s = start (t .before .before .before) in
+    (omega (arith, s .pre .2), s .pre .3, s .pre .5 .fits (t .before .loop .i) (t .loop-test .taken))
+
 loop-again : tie.Need-loop-again Inv-loop μ-loop
 loop-again c =
-    let t = c .before .before .before .before in (
+    let t = c .before .before .before .before in
+    let x = getD (start (t .before .before) .args .codes .now) (t .loop .i) 0 in (
       omega arith,
-      written-up (t .loop .inv .1) (t .loop .i) _ (omega arith) (c .mark .ensures ∙ mark-at (t .before .before) _) (omega arith) refl,
+      written-up (t .loop .inv .1) (t .loop .i) _ (omega arith) (c .mark .ensures ∙ mark-at (t .before .before) x) (omega arith) refl,
     )
 
 returns : tie.Need-returns Inv-loop μ-loop
@@ -83,4 +90,4 @@ write-marks-spec =
     derivative-requires (λ c. (omega arith, written-none _ _ _))
     (λ c. let s = c .before .before .before in omega (arith, length-front (replicate 65 0) (r s) (len s) (s .derivative .kept .1 .1 .1 .0)))
     (λ c. let s = c .before .before .before .before in sym (ap length (back s) ∙ long s)) (λ c. search needs) (λ c. search needs)
-    (λ c κs. search needs) (λ c. search needs) (λ c. search needs) (λ c. search needs) loop-again (λ c. search needs) returns)
+    mark-requires (λ c. search needs) (λ c. search needs) (λ c. search needs) loop-again (λ c. search needs) returns)

@@ -11,7 +11,7 @@ use mir.Syntax.{w64}
 use mir.ValLaws.{toZ-ofZ}
 use Rattle.theory.specs.Polynomial.{reduce}
 use Rattle.theory.proofs.Lists.Fill.{filled-next}
-use Rattle.theory.proofs.Polynomials.Signed.{reduce-lt}
+use Rattle.theory.proofs.Numbers.Reduction.{reduce-lt}
 use Rattle.solver.proofs.reduce.reduced.Statement.{statement}
 use Rattle.solver.proofs.reduce.reduced.Tie as tie
 

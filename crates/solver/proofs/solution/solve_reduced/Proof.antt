@@ -8,8 +8,7 @@ use borrow.Author.Tests.{eqb-true, eqb-false, not-true, not-false}
 use native.Mathlib.Omega.{arith}
 use lib.ListN.{length, length-map, take, drop}
 use lib.Seq.{length-take-le, take-at}
-use Rattle.theory.specs.Class.{Class}
-use Rattle.theory.specs.ClassList.{levelsOf}
+use Rattle.theory.specs.SignedClass.{SignedClass, natural, levelsOf}
 use Rattle.theory.specs.Polynomial.{zeros, derivative}
 use Rattle.theory.specs.Degree.{primitive}
 use Rattle.theory.specs.Mark.{markOf}
@@ -41,7 +40,7 @@ module _ (a : tie.Start) where
   abbrev given : Lists
   given = lists (a .args .residues .now) (a .args .levels .now) (a .args .marks .now)
 
-  abbrev L : List Class
+  abbrev L : List SignedClass
   L = zeroClasses w p n
 
   long : length w ≡ a .args .c
@@ -54,7 +53,7 @@ module _ (c : tie.After-zero-classes) where
   same = c .before .before
 
   abbrev call : tie.Start
-  call = same .before .before .before .before .before
+  call = same .before .before .before .before
 
   abbrev k : ℕ
   k = c .zero-classes .result
@@ -84,7 +83,7 @@ smaller-requires-2 c κs = search needs
 
 returns : tie.Need-returns
 returns c =
-    let a = c .before .before .before .before .before .before in
+    let a = c .before .before .before .before .before in
     lengths-refused (w a) (p a) (n a) (given a) (c .smaller2 .ensures ∙ ap (min (length (given a .residues))) (c .before .smaller .ensures))
     (λ d e. elim (c .before .before .if1 .came) [ inl u ↦ u .taken d | inr u ↦ eqb-false _ _ (not-true _ (u .1 .taken)) e ])
 
@@ -116,12 +115,12 @@ module _ (c : tie.Else3) where
       (room, omega (arith, levels-equal found), omega (arith, marks-equal found))
 
   -- what is written of each class
-  stands : (h : Class → ℕ) (old : List ℕ)
+  stands : {A : Type 0} (h : SignedClass → A) (old : List A)
       → map h (map classOf (codes found)) ++ drop (length (codes found)) old ≡ filled passes (map h (L b)) old
   stands = written (zeros (w b) (p b) (n b)) (b .pre .0) (codes found) (found .zero-classes .ensures .1)
 
   -- the marks from the derivative are those over all members
-  marks-are : markFrom (p b) (derivative (primitive (p b) (w b))) ≡ markOf (w b) (p b) (n b)
+  marks-are : markFrom (p b) (derivative (primitive (p b) (w b))) ≡ (λ (c : SignedClass). markOf (w b) (p b) (n b) (natural (p b) c))
   marks-are = let U = b .pre .0 in fun-ext (λ c. mark-is (w b) (p b) (n b) (prime-pos (U .prime)) (U .precise) c)
 
 array-share-prefix-codes : tie.Need-array-share-prefix-codes
@@ -137,22 +136,22 @@ write-residues-requires c κs =
     (fit s .0, residues-fit (zeros (w a) (p a) (n a)) (a .pre .0) (codes (found s)) (found s .zero-classes .ensures .1))
 
 write-levels-requires : tie.Need-write-levels-requires
-write-levels-requires c κs = fit (c .before .before .before .before .before .before) .1
+write-levels-requires c κs = fit (c .before .before .before .before .before) .1
 
 -- Once the levels are written
 
 module _ (c : tie.After-write-levels) where
   abbrev enough : tie.Else3
-  enough = c .before .before .before .before .before .before .before
+  enough = c .before .before .before .before .before .before
 
   abbrev levels : List ℕ
   levels = levelsOf (L (b enough))
 
   levels-stand : c .write-levels .last .1 .0 ≡ filled passes levels (given (b enough) .levels)
-  levels-stand = c .write-levels .ensures ∙ stands enough (λ (e : Class). e .level) (given (b enough) .levels)
+  levels-stand = c .write-levels .ensures ∙ stands enough (λ (e : SignedClass). e .level) (given (b enough) .levels)
 
   levels-long : k (found enough) ≡ length levels
-  levels-long = number (found enough) ∙ sym (length-map (L (b enough)) (λ (e : Class). e .level))
+  levels-long = number (found enough) ∙ sym (length-map (L (b enough)) (λ (e : SignedClass). e .level))
 
   levels-are : take (k (found enough)) (c .write-levels .last .1 .0) ≡ levels
   levels-are =
@@ -170,7 +169,8 @@ write-marks-requires c κs =
     let s = enough (c .before .before .before .before) in
     let a = b s in
     let U = a .pre .0 in
-    (omega (arith, long a, a .pre .1), omega (arith, long a, a .pre .2), U .prime .two, U .small, fit s .2)
+    let codes-fit = residues-fit (zeros (w a) (p a) (n a)) U (codes (found s)) (found s .zero-classes .ensures .1) in
+    (omega (arith, long a, a .pre .1), omega (arith, long a, a .pre .2), U .prime .two, U .small, fit s .2, codes-fit)
 
 -- Once the marks are written
 
@@ -179,7 +179,8 @@ module _ (c : tie.After-write-marks) where
   last = enough (c .before .before .before .before .before)
 
   marks-stand : c .write-marks .last .1 .1 .1 .0
-      ≡ filled passes (map (markOf (w (b last)) (p (b last)) (n (b last))) (L (b last))) (given (b last) .marks)
+      ≡ filled passes (map (λ (c : SignedClass). markOf (w (b last)) (p (b last)) (n (b last)) (natural (p (b last)) c)) (L (b last)))
+      (given (b last) .marks)
   marks-stand = rw (← marks-are last) (c .write-marks .ensures ∙ stands last _ (given (b last) .marks))
 
 slice-reshare-prefix-member-total : tie.Need-slice-reshare-prefix-member-total
@@ -206,7 +207,7 @@ returns-3 : tie.Need-returns-3
 returns-3 c =
     let marked = c .before .before .before .before in
     let levelled = marked .before .before .before .before .before in
-    let listed = levelled .before .before .before .before in
+    let listed = levelled .before .before .before in
     let s = enough levelled in
     let a = b s in
     let v =
@@ -216,7 +217,7 @@ returns-3 c =
           (rw (← total-is (zeros (w a) (p a) (n a)) (a .pre .0), ← levels-are levelled) (c .member-total .ensures))),
       rw v (λ i.
           lists
-          ((listed .write-residues .ensures ∙ stands s (λ (e : Class). e .residue) (given a .residues)) i)
+          ((listed .write-residues .ensures ∙ stands s (λ (e : SignedClass). e .residue) (given a .residues)) i)
           (levels-stand levelled i)
           (marks-stand marked i)),
     )

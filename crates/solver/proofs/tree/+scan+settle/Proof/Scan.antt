@@ -250,6 +250,7 @@ module _ (t : ℕ) where
       let class = class-fits (N .node) in (
         class .0,
         class .1,
+        class .2,
         omega (
           arith,
           ended s .long,
@@ -270,7 +271,8 @@ module _ (t : ℕ) where
       let then = put .before .before in
       let s = then .before .before .before in
       scanned-put (ended s) (omega (arith, call (end s) .pre .1 .1))
-      (put .put-whole .ensures _ _ (whole-is s ∙ and-intro _ _ (then .before .before .if2 .taken) (then .if3 .taken)))
+      (put .put-whole .ensures _ _ (P (end s) .at .node .power-is)
+      (whole-is s ∙ and-intro _ _ (then .before .before .if2 .taken) (then .if3 .taken)))
 
   same-length-2 : lts.Need-same-length-2 calls at reads.Post Inv-loop μ-loop
   same-length-2 c = ended (c .before) .long

@@ -59,8 +59,8 @@ module _ (t : ℕ) where
     Whole = allBelow S (M .p ^ x .left) ≡ true
 
     -- a class that is whole is put
-    ready : Whole → (x .residue < 4294967296) × (x .level < 256) × (a .args .k < length (a .args .out .now))
-    ready w = let s = class-fits (N .node) in (s .0, s .1, whole-room N w (a .pre .1 .2))
+    ready : Whole → (x .residue < x .power) × (x .power ≤ 4294967295) × (x .level < 256) × (a .args .k < length (a .args .out .now))
+    ready w = let s = class-fits (N .node) in (s .0, s .1, s .2, whole-room N w (a .pre .1 .2))
 
   module _ (c : lts.After-all-zero calls at reads.Post) where
     abbrev call : lts.Start calls at reads.Post
@@ -87,7 +87,10 @@ module _ (t : ℕ) where
   same-length c = search needs
 
   returns : lts.Need-returns calls at reads.Post
-  returns c = let put = c .before .before in put .put-whole .ensures _ _ (all-whole (put .before .before))
+  returns c =
+      let put = c .before .before in
+      let then = put .before .before in
+      put .put-whole .ensures _ _ (N (call (then .before)) .node .power-is) (all-whole then)
 
   -- Where some is not, and no level is left
 
@@ -119,7 +122,10 @@ module _ (t : ℕ) where
   same-length-2 c = search needs
 
   returns-2 : lts.Need-returns-2 calls at reads.Post
-  returns-2 c = let put = c .before .before in put .put-whole2 .ensures _ _ (root (put .before .before))
+  returns-2 c =
+      let put = c .before .before in
+      let then = put .before .before in
+      put .put-whole2 .ensures _ _ (N (last-call (then .before)) .node .power-is) (root then)
 
   returns-3 : lts.Need-returns-3 calls at reads.Post
   returns-3 c =
