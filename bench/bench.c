@@ -142,7 +142,7 @@ static problem fermat(void)
 /* The library **********************************************************************************************************************/
 
 static problem given;
-static uint32_t residues[WIMPLECLAY_MAX_CLASSES];
+static int32_t residues[WIMPLECLAY_MAX_CLASSES];
 static uint8_t levels[WIMPLECLAY_MAX_CLASSES], marks[WIMPLECLAY_MAX_CLASSES];
 static wimpleclay_solve_answer answer;
 
@@ -191,10 +191,10 @@ typedef struct {
 static int is_member(uint64_t r)
 {
     for (size_t i = 0; i < answer.classes; i++) {
-        uint64_t power = 1;
+        int64_t power = 1;
         for (int t = 0; t < levels[i]; t++)
             power *= given.p;
-        if (r % power == residues[i])
+        if (((int64_t)r - residues[i]) % power == 0)
             return 1;
     }
     return 0;
@@ -339,7 +339,7 @@ static int print_problems(void)
 /* A list of 100,000 classes, single residues modulo 2^19, and its map. */
 enum { LONG = 100000, MODULUS = 1 << 19 };
 
-static uint32_t long_residues[LONG];
+static int32_t long_residues[LONG];
 static uint8_t long_levels[LONG], map[WIMPLECLAY_MAP_BYTES(MODULUS)];
 
 static int next_in_solved(void)
@@ -376,8 +376,8 @@ static int print_lists(void)
     problem q = simple_roots("", 251, 4);
     library_prepare(&q);
     int all = library_run();
-    for (uint32_t i = 0; i < LONG; i++) {
-        long_residues[i] = 5 * i;
+    for (int32_t i = 0; i < LONG; i++) {
+        long_residues[i] = 5 * (i - LONG / 2);
         long_levels[i] = 19;
     }
     printf("\n| one call | Wimpleclay |\n|---|--:|\n");

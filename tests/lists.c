@@ -91,14 +91,12 @@ static void test_list(uint32_t p, uint32_t n)
 void test_lists(void)
 {
     static const uint32_t primes[] = {2, 3, 5, 7, 13};
-    /* some powers just below and above 2^31, and the largest */
-    static const uint32_t large[][2] = {{2, 31}, {3, 20}, {251, 4}, {1621, 3}, {46337, 2}, {46349, 2}, {65521, 2}};
     for (size_t i = 0; i < sizeof primes / sizeof *primes; i++)
         for (uint32_t n = 1; power(primes[i], n) <= 729; n++)
-            for (int j = 0; j < 300; j++)
+            for (int j = 0; j < 500; j++)
                 test_list(primes[i], n);
-    for (size_t i = 0; i < sizeof large / sizeof *large; i++)
-        for (int j = 0; j < 50; j++)
-            test_list(large[i][0], large[i][1]);
+    for (size_t i = 0; i < LARGE; i++)
+        for (int j = 0; j < 100; j++)
+            test_list(large_moduli[i][0], large_moduli[i][1]);
     expect_every_fault(0);
 }

@@ -1,6 +1,6 @@
 /* wimpleclay_solve, wimpleclay_next_root on its lists and wimpleclay_is_root, on drawn polynomials, against trial. */
 #include "check.h"
-#include "reference.h"
+#include "drawn.h"
 #include "tests.h"
 
 #include <string.h>
@@ -121,10 +121,39 @@ static void test_modulus(uint32_t p, uint32_t n, int polynomials)
     }
 }
 
+/* A residue of least size modulo m, often one of the outermost. */
+static int64_t draw_least(uint64_t m)
+{
+    int64_t high = (int64_t)(m / 2), low = high - (int64_t)m + 1;
+    switch (draw(3)) {
+    case 0:
+        return low + (int64_t)draw(4);
+    case 1:
+        return high - (int64_t)draw(4);
+    default:
+        return low + (int64_t)draw(m);
+    }
+}
+
+/* (x - a)(x - b), a < b, both of least size and not congruent modulo p: the classes are a/n and b/n. */
+static void test_two_roots(uint32_t p, uint32_t n)
+{
+    int64_t a = draw_least(power(p, n)), b = draw_least(power(p, n));
+    if (a >= b || (b - a) % p == 0)
+        return;
+    s = (list){2, {(int32_t)a, (int32_t)b}, {(uint8_t)n, (uint8_t)n}, {1, 1}, {0}, 2};
+    loan f = lend((const int64_t[]){a * b, -a - b, 1}, 3 * sizeof(int64_t));
+    solve_into(&f, 3, p, n, 2);
+    end_loan(&f);
+}
+
 void test_solving(void)
 {
     static const uint32_t primes[] = {2, 3, 5, 7, 11, 13, 47};
     for (size_t i = 0; i < sizeof primes / sizeof *primes; i++)
         for (uint32_t n = 1; power(primes[i], n) <= MOST; n++)
             test_modulus(primes[i], n, 40);
+    for (size_t i = 0; i < LARGE; i++)
+        for (int j = 0; j < 60; j++)
+            test_two_roots(large_moduli[i][0], large_moduli[i][1]);
 }

@@ -151,14 +151,13 @@ static void test_drawn_text(void)
 
 void test_texts(void)
 {
-    for (int i = 0; i < 2000; i++) {
+    for (int i = 0; i < 4000; i++) {
         test_writer(2, 1 + (uint32_t)draw(10));
         test_writer(3, 1 + (uint32_t)draw(6));
         test_drawn_text();
     }
-    for (int i = 0; i < 100; i++) {
-        test_writer(2, 31);
-        test_writer(65521, 2);
-    }
+    for (size_t i = 0; i < LARGE; i++)
+        for (int j = 0; j < 50; j++)
+            test_writer(large_moduli[i][0], large_moduli[i][1]);
     expect_every_fault(1);
 }

@@ -15,7 +15,7 @@ static int refused(uint32_t number, size_t place)
 }
 
 /* Steps through the members of the k classes. */
-static int print_roots(uint32_t p, uint32_t n, const uint32_t *residues, const uint8_t *levels, size_t k)
+static int print_roots(uint32_t p, uint32_t n, const int32_t *residues, const uint8_t *levels, size_t k)
 {
     uint32_t point = 0;
     for (;;) {
@@ -52,7 +52,7 @@ static int read_number(const char *word, int64_t least, int64_t most, int64_t *n
 int main(int argc, char **argv)
 {
     int64_t coefficients[WIMPLECLAY_MAX_COEFFICIENTS];
-    uint32_t residues[WIMPLECLAY_MAX_CLASSES];
+    int32_t residues[WIMPLECLAY_MAX_CLASSES];
     uint8_t levels[WIMPLECLAY_MAX_CLASSES], marks[WIMPLECLAY_MAX_CLASSES];
     if (argc < 4 || argc > 3 + WIMPLECLAY_MAX_COEFFICIENTS) {
         fprintf(stderr, "usage: roots P N C0 C1 ..\n");
@@ -74,6 +74,6 @@ int main(int argc, char **argv)
     printf("%zu classes, %" PRIu64 " roots\n", solved.classes, solved.roots);
     static const char *const words[] = {"", ", simple", ", some of them simple"};
     for (size_t i = 0; i < solved.classes; i++)
-        printf("%" PRIu32 " modulo %" PRIu32 "^%d%s\n", residues[i], p, levels[i], words[marks[i]]);
+        printf("%" PRId32 " modulo %" PRIu32 "^%d%s\n", residues[i], p, levels[i], words[marks[i]]);
     return print_roots(p, n, residues, levels, solved.classes);
 }

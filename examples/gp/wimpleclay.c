@@ -6,7 +6,7 @@
 GEN gp_wimpleclay(GEN row, long p, long n)
 {
     int64_t coefficients[WIMPLECLAY_MAX_COEFFICIENTS];
-    uint32_t residues[WIMPLECLAY_MAX_CLASSES];
+    int32_t residues[WIMPLECLAY_MAX_CLASSES];
     uint8_t levels[WIMPLECLAY_MAX_CLASSES], marks[WIMPLECLAY_MAX_CLASSES];
     long count = glength(row);
     if (typ(row) != t_VEC || count > WIMPLECLAY_MAX_COEFFICIENTS)
@@ -24,6 +24,6 @@ GEN gp_wimpleclay(GEN row, long p, long n)
         pari_err(e_MISC, "wimpleclay: refused by rule %lu, place %lu", (ulong)a.number, (ulong)a.place);
     GEN classes = cgetg((long)a.classes + 1, t_VEC);
     for (size_t i = 0; i < a.classes; i++)
-        gel(classes, i + 1) = mkvec3s((long)residues[i], levels[i], marks[i]);
+        gel(classes, i + 1) = mkvec3s(residues[i], levels[i], marks[i]);
     return classes;
 }

@@ -1,9 +1,10 @@
 """Roots of a polynomial modulo a prime power.
 
-The coefficients start with the constant one. x^2 - 1 modulo 2^4:
+The coefficients start with the constant one. A class has its residue of least size, which may be negative; roots and points are from 0
+to p^n - 1. x^2 - 1 modulo 2^4:
 
 >>> classes([-1, 0, 1], 2, 4)
-[Class(residue=1, level=3, mark=0), Class(residue=7, level=3, mark=0)]
+[Class(residue=-1, level=3, mark=0), Class(residue=1, level=3, mark=0)]
 >>> roots([-1, 0, 1], 2, 4)
 [1, 7, 9, 15]
 >>> count([-1, 0, 1], 2, 4)
@@ -41,7 +42,7 @@ The library is found as libwimpleclay.so on the loader's path, or where WIMPLECL
 import ctypes
 import os
 from array import array
-from ctypes import POINTER, c_int64, c_size_t, c_uint8, c_uint32, c_uint64
+from ctypes import POINTER, c_int32, c_int64, c_size_t, c_uint8, c_uint32, c_uint64
 from typing import NamedTuple
 
 MAX_CLASSES = 64
@@ -61,7 +62,7 @@ class Refused(ValueError):
 
 
 class Class(NamedTuple):
-    """The residues congruent to residue modulo p^level.
+    """The residues congruent to residue modulo p^level, where -p^level < 2 * residue <= p^level.
 
     mark is 1 if they are all simple roots, 0 if none is, 2 if only some are. A root r is simple if p does not divide g'(r), where g is
     the polynomial divided by the largest power of p common to its coefficients modulo p^n; if all these are 0, mark is 0.
@@ -96,7 +97,7 @@ def _list(of):
 
 
 _problem = (*_list(c_int64), c_uint32, c_uint32)
-_residues, _levels, _marks = _list(c_uint32), _list(c_uint8), _list(c_uint8)
+_residues, _levels, _marks = _list(c_int32), _list(c_uint8), _list(c_uint8)
 _solve = _function("solve", [("classes", c_size_t), ("roots", c_uint64)], (*_problem, *_residues, *_levels, *_marks))
 _is_root = _function("is_root", [("root", c_uint32)], (*_problem, c_uint32))
 _next_root = _function(
@@ -112,7 +113,7 @@ def _row(coefficients):
 
 def _solved(coefficients, p, n):
     """The solver's answer, and its lists."""
-    lists = [(of * MAX_CLASSES)() for of in (c_uint32, c_uint8, c_uint8)]
+    lists = [(of * MAX_CLASSES)() for of in (c_int32, c_uint8, c_uint8)]
     lent = [x for one in lists for x in (one, MAX_CLASSES)]
     return _solve(*_row(coefficients), p, n, *lent), lists
 

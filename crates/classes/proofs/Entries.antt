@@ -1,10 +1,10 @@
 -- The entries of a lent list of classes, by their index.
 use mathlib.Core.Path.{_≡_, refl, ap, _∙_}
-use mathlib.Core.List.{List, [], _∷_, map}
+use mathlib.Core.List.{List, [], _∷_}
 use Prim.Native.Nat.{ℕ, zero, suc, _<_, min}
 use native.Mathlib.Omega.{arith}
 use lib.IntN.{ℤ, pos}
-use lib.ListN.{length, getD}
+use lib.ListN.{length, length-map, getD}
 use Rattle.theory.specs.Class.{Class, class}
 use Rattle.theory.specs.ClassList.{slot}
 use Rattle.theory.specs.SignedClass.{SignedClass, signedClass, natural, naturals, signedSlot, residuesOf, levelsOf}
@@ -42,8 +42,19 @@ classes-levels [] (t ∷ levels) e = absurd (omega arith)
 classes-levels (a ∷ residues) [] e = absurd (omega arith)
 classes-levels (a ∷ residues) (t ∷ levels) e = ap (λ (l : List ℕ). t ∷ l) (classes-levels residues levels (omega arith))
 
--- entry i as 01's class
+-- A list as 01's classes
+
 pub natural-slot : (p : ℕ) (L : List SignedClass) (i : ℕ) → i < length L → slot (naturals p L) i ≡ natural p (signedSlot L i)
 natural-slot p [] i h = absurd (omega arith)
 natural-slot p (c ∷ L) zero h = refl
 natural-slot p (c ∷ L) (suc i) h = natural-slot p L i (omega arith)
+
+module _ (p : ℕ) (residues : List ℤ) (levels : List ℕ) (same : length residues ≡ length levels) where
+  pub lent-length : length (naturals p (classesOf residues levels)) ≡ length residues
+  lent-length = length-map (classesOf residues levels) (natural p) ∙ classes-same-length residues levels same
+
+  pub lent-slot : (i : ℕ) → i < length residues
+      → slot (naturals p (classesOf residues levels)) i ≡ natural p (signedClass (getD residues i (pos 0)) (getD levels i 0))
+  lent-slot i h =
+      natural-slot p (classesOf residues levels) i (omega (arith, classes-same-length residues levels same))
+      ∙ ap (natural p) (classes-slot residues levels i h (omega arith))

@@ -8,19 +8,19 @@ use native.Mathlib.Decide.{decLe, decLt}
 use native.Mathlib.Omega.{arith}
 use borrow.Author.Tests.{le-leb, lt-leb, eq-eqb, ne-eqb}
 use lib.IntN.{ℤ, pos}
-use lib.ListN.{length, length-map, getD, take}
+use lib.ListN.{length, getD, take}
 use Rattle.theory.specs.Range.{least}
 use Rattle.theory.specs.Class.{Class, class, isMember}
-use Rattle.theory.specs.ClassList.{slot, members}
+use Rattle.theory.specs.ClassList.{members}
 use Rattle.theory.specs.Polynomial.{reduce}
-use Rattle.theory.specs.SignedClass.{SignedClass, signedClass, natural, naturals}
+use Rattle.theory.specs.SignedClass.{signedClass, natural, naturals}
 use Rattle.theory.proofs.Lists.Fill.{take-next}
 use Rattle.theory.proofs.Range.{least-agree, least-range}
 use Rattle.theory.proofs.Numbers.Power.{pow-pos}
 use Rattle.theory.proofs.Numbers.Reduction.{reduce-lt}
 use Rattle.classes.specs.Rule7.{classesOf}
 use Rattle.classes.specs.inner.Search.{memberFrom}
-use Rattle.classes.proofs.Entries.{classes-slot, classes-same-length, natural-slot}
+use Rattle.classes.proofs.Entries.{lent-length, lent-slot}
 use Rattle.theory.proofs.Least.{least-is, least-or}
 use Rattle.theory.proofs.Classes.Members.{members-snoc}
 
@@ -129,20 +129,18 @@ least-of-snoc p l c point m fits h =
     ∙ e
 
 -- entry i of a lent list is taken in
-pub least-of-next : (p n : ℕ) → 0 < p → (residues : List ℤ) (levels : List ℕ) → length residues ≡ length levels
+pub least-of-next : (p : ℕ) → 0 < p → (residues : List ℤ) (levels : List ℕ) → length residues ≡ length levels
     → (i point m : ℕ) → i < length residues → point ≤ m
     → least (members p (take (i + 1) (naturals p (classesOf residues levels)))) (m - point) point
     ≡ min (least (members p (take i (naturals p (classesOf residues levels)))) (m - point) point)
     (memberFrom (reduce (p ^ getD levels i 0) (getD residues i (pos 0))) (p ^ getD levels i 0) point)
 unfolding natural
-least-of-next p n hp residues levels same i point m h l =
-    let L = classesOf residues levels in
-    let c : SignedClass = signedClass (getD residues i (pos 0)) (getD levels i 0) in
-    let fits : i < length L = omega (arith, classes-same-length residues levels same) in
-    let e : slot (naturals p L) i ≡ natural p c = natural-slot p L i fits ∙ ap (natural p) (classes-slot residues levels i h (omega arith)) in
-    let w : take (i + 1) (naturals p L) ≡ take i (naturals p L) ++ (natural p c ∷ []) =
-    take-next (naturals p L) i (class 0 0) (omega (arith, length-map L (natural p)))
-    ∙ ap (λ (d : Class). take i (naturals p L) ++ (d ∷ [])) e in
+least-of-next p hp residues levels same i point m h l =
+    let N = naturals p (classesOf residues levels) in
+    let c = natural p (signedClass (getD residues i (pos 0)) (getD levels i 0)) in
+    let w : take (i + 1) N ≡ take i N ++ (c ∷ []) =
+    take-next N i (class 0 0) (omega (arith, lent-length p residues levels same))
+    ∙ ap (λ (d : Class). take i N ++ (d ∷ [])) (lent-slot p residues levels same i h) in
     ap (λ (k : List Class). least (members p k) (m - point) point) w
-    ∙ least-of-snoc p (take i (naturals p L)) (natural p c) point m
+    ∙ least-of-snoc p (take i N) c point m
     (reduce-lt (p ^ getD levels i 0) (pow-pos p hp (getD levels i 0)) (getD residues i (pos 0))) l

@@ -3,6 +3,7 @@ use mathlib.Core.Path.{_≡_, refl, sym, ap, _∙_}
 use mathlib.Core.List.{List, [], _∷_}
 use Prim.Native.Nat.{ℕ, _+_, _*_}
 use native.Mathlib.Omega.{arith}
+use lib.IntN.{ℤ}
 use lib.ListN.{length}
 use Rattle.theory.specs.ClassList.{memberTotal}
 use Rattle.theory.proofs.Numbers.Prime.{prime-pos}
@@ -24,7 +25,7 @@ one-rule : (v : Verdict) → tried (v ∷ []) ≡ v
 one-rule passes = refl
 one-rule (refuses r) = refl
 
-module _ (p n : ℕ) (residues levels marks : List ℕ) where
+module _ (p n : ℕ) (residues : List ℤ) (levels marks : List ℕ) where
   -- the root count is within the limit
   pub total-fits : {m : ℕ} → UsableMarked p n residues levels marks m → saturated (memberTotal p n levels) ≡ memberTotal p n levels
   total-fits C =

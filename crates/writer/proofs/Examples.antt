@@ -1,9 +1,10 @@
--- The block that 01 prints: x² − 1, p = 2, n = 4, with the classes 1/3 and 7/3.
+-- The block that 01 prints for x² − 1, p = 2, n = 4, as 02 (2.7) has it: "01's printed case becomes residues −1, then 1, each of level 3".
 use mathlib.Core.Path.{_≡_, refl}
 use mathlib.Core.List.{List, [], _∷_, _++_}
 use Prim.Native.Nat.{ℕ}
+use lib.IntN.{pos, negsuc}
 use lib.ListN.{replicate}
-use Rattle.theory.specs.Class.{class}
+use Rattle.theory.specs.SignedClass.{signedClass}
 use Rattle.refusal.specs.declared.Refusal.the-variants.{TooFewSlots}
 use Rattle.writer.specs.Output.{outputText, refusalLine}
 
@@ -11,11 +12,11 @@ use Rattle.writer.specs.Output.{outputText, refusalLine}
 abbrev single : ℕ → List ℕ
 single byte = replicate 10 32 ++ byte ∷ []
 
--- '1' is byte 49
-pub printed-block : outputText 2 4 (class 1 3 ∷ class 7 3 ∷ []) (0 ∷ 0 ∷ [])
+-- '1' is byte 49, '-' byte 45
+pub printed-block : outputText 2 4 (signedClass (negsuc 0) 3 ∷ signedClass (pos 1) 3 ∷ []) (0 ∷ 0 ∷ [])
     ≡ single 50 ++ single 52 ++ single 50 ++ single 52 ++ 10 ∷ []
+    ++ replicate 9 32 ++ 45 ∷ 49 ∷ [] ++ single 51 ++ single 50 ++ single 48 ++ 10 ∷ []
     ++ single 49 ++ single 51 ++ single 50 ++ single 48 ++ 10 ∷ []
-    ++ single 55 ++ single 51 ++ single 50 ++ single 48 ++ 10 ∷ []
 unfolding outputText
 printed-block = refl
 

@@ -3,9 +3,11 @@ use mathlib.Core.Path.{_≡_, sym, ap, ap₂, _∙_}
 use mathlib.Core.List.{List, _++_}
 use Prim.Native.Nat.{ℕ, _+_, _*_, _^_, _≤_, _<_}
 use native.Mathlib.Omega.{arith}
+use lib.IntN.{ℤ, pos}
 use lib.ListN.{length, take, drop}
 use lib.Seq.{take-all, length-take-le}
-use Rattle.theory.specs.ClassList.{levelsOf, memberTotal}
+use Rattle.theory.specs.ClassList.{memberTotal}
+use Rattle.theory.specs.SignedClass.{levelsOf}
 use Rattle.classes.specs.Rule7.{classesOf}
 use Rattle.classes.proofs.Entries.{classes-same-length, classes-levels}
 use Rattle.writer.specs.inner.Place.{laid}
@@ -15,7 +17,7 @@ use Rattle.writer.proofs.Laid.{laid-next, laid-nothing, laid-zero}
 use Rattle.writer.proofs.Line.{line-length}
 use Rattle.writer.proofs.ClassLines.{linesTo, lineAt, lines-length, lines-next}
 
-module _ (p n : ℕ) (residues levels marks : List ℕ) (fit : UsableMarked p n residues levels marks (p ^ n)) (text : List ℕ) where
+module _ (p n : ℕ) (residues : List ℤ) (levels marks : List ℕ) (fit : UsableMarked p n residues levels marks (p ^ n)) (text : List ℕ) where
   lines-to-length : (i : ℕ) → i ≤ length residues → length (linesTo p n residues levels marks i) ≡ 45 * i
   lines-to-length i h =
       let r : length (take i residues) ≡ i = length-take-le i residues h in
@@ -53,17 +55,17 @@ module _ (p n : ℕ) (residues levels marks : List ℕ) (fit : UsableMarked p n 
 
   -- the first line and those of the classes
   pub output-laid : (first last : List ℕ) → 45 * (length residues + 1) ≤ length text
-      → first ≡ laid 0 (line p n (length residues) (memberTotal p n levels)) text
+      → first ≡ laid 0 (line (pos p) n (length residues) (memberTotal p n levels)) text
       → last ≡ laid 45 (classLines p n (classesOf residues levels) marks) first
       → last ≡ outputText p n (classesOf residues levels) marks ++ drop (length (outputText p n (classesOf residues levels) marks)) text
   unfolding outputText
   output-laid first last room e f =
       let cs = classesOf residues levels in
-      let head = line p n (length residues) (memberTotal p n levels) in
-      let same : head ≡ line p n (length cs) (memberTotal p n (levelsOf cs)) =
-      ap₂ (λ (k roots : ℕ). line p n k roots) (sym (classes-same-length residues levels (fit .same-length)))
+      let head = line (pos p) n (length residues) (memberTotal p n levels) in
+      let same : head ≡ line (pos p) n (length cs) (memberTotal p n (levelsOf cs)) =
+      ap₂ (λ (k roots : ℕ). line (pos p) n k roots) (sym (classes-same-length residues levels (fit .same-length)))
       (ap (memberTotal p n) (sym (classes-levels residues levels (fit .same-length)))) in
-      let place : 45 ≡ 0 + length head = omega (arith, line-length p n (length residues) (memberTotal p n levels)) in
+      let place : 45 ≡ 0 + length head = omega (arith, line-length (pos p) n (length residues) (memberTotal p n levels)) in
       f
       ∙ ap (laid 45 (classLines p n cs marks)) e
       ∙ laid-next 0 head text (classLines p n cs marks) 45 place (omega arith)

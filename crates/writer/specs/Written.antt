@@ -2,6 +2,7 @@
 use mathlib.Core.List.{List, [], _∷_, _++_}
 use Prim.Native.Nat.{ℕ, _+_, _*_}
 use lib.Dec.{ltb}
+use lib.IntN.{ℤ}
 use lib.ListN.{length}
 use Rattle.refusal.specs.declared.Refusal.the-variants.{BufferTooSmall}
 use Rattle.refusal.specs.Rules.{Verdict, passes, refuses, rule, tried, rule12}
@@ -15,13 +16,13 @@ bytesOr passes bytes = Bytes bytes
 bytesOr (refuses r) bytes = Refused r
 
 -- the writer's rules, given the length of the buffer
-unfoldable pub writerVerdict : ℕ → ℕ → List ℕ → List ℕ → List ℕ → ℕ → Verdict
+unfoldable pub writerVerdict : ℕ → ℕ → List ℤ → List ℕ → List ℕ → ℕ → Verdict
 unfolding markedRules
 writerVerdict p n residues levels marks bytes =
     tried (markedRules p n residues levels marks ++ rule12 bytes (length residues) ∷ [])
 
 -- a line of 45 bytes for the list, and one a class
-unfoldable pub writtenOf : ℕ → ℕ → List ℕ → List ℕ → List ℕ → ℕ → Written
+unfoldable pub writtenOf : ℕ → ℕ → List ℤ → List ℕ → List ℕ → ℕ → Written
 unfolding writerVerdict
 writtenOf p n residues levels marks bytes = bytesOr (writerVerdict p n residues levels marks bytes) (45 * (length residues + 1))
 

@@ -24,7 +24,7 @@ pub enum Written {
 pub fn write_classes(
     p: u32,
     n: u32,
-    residues: &[u32],
+    residues: &[i32],
     levels: &[u8],
     marks: &[u8],
     text: &mut [u8],
@@ -45,7 +45,7 @@ pub fn write_classes(
 fn write_checked(
     p: u32,
     n: u32,
-    residues: &[u32],
+    residues: &[i32],
     levels: &[u8],
     marks: &[u8],
     text: &mut [u8],
@@ -63,7 +63,7 @@ fn write_checked(
         return Written::Refused(Refusal::BufferTooSmall(bytes));
     }
     let roots = numbers::member_total(p, n, levels);
-    column::put_line(text, 0, p as u64, n as u64, k as u64, roots);
+    column::put_line(text, 0, p as i64, n as u64, k as u64, roots);
     lines::put_classes(p, n, residues, levels, marks, text);
     Written::Bytes(bytes)
 }

@@ -2,7 +2,8 @@
 ghost use mathlib.Core.Path.{_≡_};
 ghost use Prim.Native.Nat.{_+_, _*_, _^_, _≤_, _<_};
 ghost use lib.ListN.{length, getD};
-ghost use Rattle.theory.specs.Class.{class};
+ghost use lib.IntN.{pos};
+ghost use Rattle.theory.specs.SignedClass.{signedClass};
 ghost use Rattle.classes.specs.Rule7.{classesOf};
 ghost use Rattle.classes.specs.inner.Usable.{UsableMarked};
 ghost use Rattle.writer.specs.inner.Place.{laid};
@@ -13,7 +14,7 @@ use crate::column;
 fn put_class(
     p: u32,
     n: u32,
-    residues: &[u32],
+    residues: &[i32],
     levels: &[u8],
     marks: &[u8],
     i: usize,
@@ -23,14 +24,15 @@ fn put_class(
         × (45 * (i + 1) + 45 ≤ length (now text)) ⌝ }
     ensures { λ _. ⌜ now (text .exit)
         ≡ laid (45 * (i + 1))
-        (classLine p n (class (getD (now (residues .entry)) i 0) (getD (now (levels .entry)) i 0)) (getD (now (marks .entry)) i 0))
+        (classLine p n (signedClass (getD (now (residues .entry)) i (pos 0)) (getD (now (levels .entry)) i 0))
+        (getD (now (marks .entry)) i 0))
         (now (text .entry)) ⌝ }
 {
     let t = levels[i];
     column::put_line(
         text,
         45 * (i + 1),
-        residues[i] as u64,
+        residues[i] as i64,
         t as u64,
         numbers::member_count(p, n, t),
         marks[i] as u64,
@@ -41,7 +43,7 @@ fn put_class(
 pub(crate) fn put_classes(
     p: u32,
     n: u32,
-    residues: &[u32],
+    residues: &[i32],
     levels: &[u8],
     marks: &[u8],
     text: &mut [u8],

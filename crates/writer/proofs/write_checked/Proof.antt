@@ -1,8 +1,12 @@
 -- `writer::write_checked` meets its contract.
 use mathlib.Core.Path.{_≡_, ap, _∙_}
 use Prim.Native.Nat.{ℕ, _+_, _*_}
+use native.Mathlib.Omega.{arith}
 use borrow.Author.Needs.{needs}
+use lib.IntN.{ℤ, pos}
 use lib.ListN.{length}
+use mir.Syntax.{w64}
+use mir.ValLaws.{toZ-pos}
 use Rattle.refusal.specs.declared.Refusal.the-variants.{BufferTooSmall}
 use Rattle.refusal.specs.Rules.{rule12}
 use Rattle.refusal.proofs.Rules.{rule12-refuses, rule12-passes}
@@ -23,7 +27,7 @@ mul-bytes c = search needs
 
 returns : tie.Need-returns
 returns c =
-    let a = c .before .before .before .before .before .args in
+    let a = c .before .before .before .before .args in
     let k = length (a .residues .now) in
     let bytes = 45 * (k + 1) in
     let l = a .text .now in
@@ -34,6 +38,9 @@ returns c =
 
 member-total-requires : tie.Need-member-total-requires
 member-total-requires c κs = search needs
+
+cast-put-line : tie.Need-cast-put-line
+cast-put-line c = search needs
 
 put-line-requires : tie.Need-put-line-requires
 put-line-requires c κs = search needs
@@ -50,7 +57,7 @@ returns-2 c =
     let first = last .before .before .before .before in
     let total = first .before .before in
     let test = total .before in
-    let s = test .before .before .before .before .before in
+    let s = test .before .before .before .before in
     let a = s .args in
     let k = length (a .residues .now) in
     let l = a .text .now in
@@ -60,7 +67,9 @@ returns-2 c =
       passed-answer v (45 * (k + 1)) e,
       output-laid (a .p) (a .n) (a .residues .now) (a .levels .now) (a .marks .now) (s .pre) l (first .put-line .last .0)
           (last .put-classes .last .1 .1 .1 .1 .1 .0) (test .if1 .left)
-          (first .put-line .ensures ∙ ap (λ (roots : ℕ). laid 0 (line (a .p) (a .n) k roots) l)
+          (first .put-line .ensures
+          ∙ ap (λ (z : ℤ). laid 0 (line z (a .n) k (total .member-total .result)) l) (toZ-pos w64 (a .p) (omega (arith, s .fits .p .fits)))
+          ∙ ap (λ (roots : ℕ). laid 0 (line (pos (a .p)) (a .n) k roots) l)
           (total .member-total .ensures ∙ total-fits (a .p) (a .n) (a .residues .now) (a .levels .now) (a .marks .now) (s .pre)))
           (last .put-classes .ensures)
           ∙ passed-text v new l e,
@@ -74,6 +83,7 @@ write-checked-spec =
     mul-bytes
     returns
     member-total-requires
+    cast-put-line
     put-line-requires
     put-classes-requires
     same-length

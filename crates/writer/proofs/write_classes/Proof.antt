@@ -16,7 +16,7 @@ use Rattle.writer.proofs.write_classes.Tie as tie
 
 -- the call's arguments, after the check
 abbrev start : tie.After-check-marked-list → tie.Start
-start c = c .before .before .before .before .before
+start c = c .before .before .before .before
 
 accepted : (c : tie.After-enum-told)
     → (let a = start (c .before .before) .args in

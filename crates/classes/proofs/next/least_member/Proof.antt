@@ -5,21 +5,21 @@ use Prim.Native.Nat.{ℕ, _-_, _^_, _≤_, _<_, min}
 use native.Mathlib.Omega.{arith}
 use borrow.Author.Needs.{needs}
 use lib.IntN.{ℤ, pos}
-use lib.ListN.{length, length-map, getD, take}
+use lib.ListN.{length, getD, take}
 use lib.Seq.{take-all}
 use mir.Syntax.{w32}
 use mir.ValLaws.{toZ-ofZ}
 use Rattle.theory.specs.Range.{least}
 use Rattle.theory.specs.Polynomial.{reduce}
 use Rattle.theory.specs.ClassList.{members}
-use Rattle.theory.specs.SignedClass.{natural, naturals}
+use Rattle.theory.specs.SignedClass.{naturals}
 use Rattle.theory.proofs.Numbers.Power.{pow-pos}
 use Rattle.theory.proofs.Numbers.Reduction.{reduce-lt}
 use Rattle.numbers.proofs.Saturated.{level-power, saturated-power}
 use Rattle.numbers.proofs.Words.{wide-fits, wide-read}
 use Rattle.classes.specs.Rule7.{classesOf}
 use Rattle.classes.specs.inner.Search.{memberFrom}
-use Rattle.classes.proofs.Entries.{classes-same-length}
+use Rattle.classes.proofs.Entries.{lent-length}
 use Rattle.classes.proofs.Faults.{faultless-entry}
 use Rattle.classes.proofs.NextMember.{least-of-none, least-of-next}
 use Rattle.classes.proofs.next.least_member.Statement.{statement}
@@ -101,7 +101,7 @@ loop-again c =
     let smaller : c .if1 .best ≡ min (l .best) (m .member-from .result) =
     ⊎-elim (λ w. omega (arith, w .0 .taken, w .1)) (λ w. omega (arith, w .0 .left, w .1)) (c .if1 .came) in
     let next =
-    least-of-next (x .args .p) (x .args .n) (positive s) (x .args .residues .now) (x .args .levels .now) (C .same-length) (i s)
+    least-of-next (x .args .p) (positive s) (x .args .residues .now) (x .args .levels .now) (C .same-length) (i s)
     (x .args .point) (x .args .m) (s .before .before .loop-test .taken) (x .pre .1) in
     (omega arith, smaller ∙ ap₂ min (l .inv .1) r ∙ sym next)
 
@@ -109,15 +109,9 @@ returns : tie.Need-returns Inv-loop μ-loop
 returns c =
     let x = c .before .before .before in
     let p = x .args .p in
-    let L = classesOf (x .args .residues .now) (x .args .levels .now) in
+    let long = lent-length p (x .args .residues .now) (x .args .levels .now) (x .pre .0 .same-length) in
     c .before .loop .inv .1
-    ∙ ap (λ l. least (members p l) (x .args .m - x .args .point) (x .args .point))
-    (take-all (c .before .loop .i) (naturals p L)
-    (omega (
-      arith,
-      length-map L (natural p),
-      classes-same-length (x .args .residues .now) (x .args .levels .now) (x .pre .0 .same-length),
-    )))
+    ∙ ap (λ l. least (members p l) (x .args .m - x .args .point) (x .args .point)) (take-all (c .before .loop .i) _ (omega arith))
 
 pub least-member-spec : {M : Type 1} → statement M
 least-member-spec =

@@ -16,10 +16,11 @@ use Rattle.theory.specs.SignedClass.{naturals}
 use Rattle.theory.proofs.Numbers.Prime.{prime-pos}
 use Rattle.numbers.proofs.Saturated.{level-power}
 use Rattle.classes.specs.Rule7.{classesOf}
+use Rattle.classes.proofs.Entries.{lent-length, lent-slot}
 use Rattle.classes.proofs.Faults.{faultless-entry}
 use Rattle.rootmap.specs.inner.Bits.{Added}
 use Rattle.rootmap.proofs.Adding.{added-none, added-same, added-both}
-use Rattle.rootmap.proofs.Listed.{listedBelow, listed-none, listed-next, listed-all, lent-length, lent-slot}
+use Rattle.rootmap.proofs.Listed.{listedBelow, listed-none, listed-next, listed-all}
 use Rattle.rootmap.proofs.fill.set_classes.Statement.{statement}
 use Rattle.rootmap.proofs.fill.set_classes.Tie as tie
 

@@ -2,6 +2,7 @@
 use borrow.Author.Needs.{needs}
 use Rattle.columns.specs.Column.{column}
 use Rattle.columns.proofs.Length.{column-length}
+use Rattle.writer.proofs.Columns.{number-column}
 use Rattle.writer.proofs.Laid.{laid-part}
 use Rattle.writer.proofs.column.put_column.Statement.{statement}
 use Rattle.writer.proofs.column.put_column.Tie as tie
@@ -26,7 +27,7 @@ returns c =
     let s = c .before .before .before .before .before in
     let a = s .args in
     laid-part (a .at) (column (a .width) (a .x)) (a .text .now) (c .before .before .put-number .last .0) (a .width)
-    (column-length (a .width) (a .x)) (s .pre .1) (c .before .before .put-number .ensures)
+    (column-length (a .width) (a .x)) (s .pre .1) (rw (← number-column (a .width) (a .x)) (c .before .before .put-number .ensures))
 
 pub put-column-spec : {M : Type 1} → statement M
 put-column-spec =

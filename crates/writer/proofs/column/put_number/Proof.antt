@@ -31,7 +31,7 @@ returns : tie.Need-returns
 returns c =
     let s = c .before .before .before .before .before in
     let a = s .args in
-    c .before .before .put-left .ensures ∙ put-last-digit (a .part .now) (a .width) (a .x) (s .pre .0) (s .pre .1)
+    c .before .before .put-left .ensures ∙ put-last-digit (a .part .now) (a .width) (s .pre .0) (s .pre .1) (a .sign) (a .x)
 
 pub put-number-spec : {M : Type 1} → statement M
 put-number-spec = tie.close (tie.spec sub-last cast-part add-part slice-write-part put-left-requires same-length returns)

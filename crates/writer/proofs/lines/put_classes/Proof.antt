@@ -19,14 +19,14 @@ abbrev μ-loop : tie.MeasureT-loop
 
 loop-holds : tie.Need-loop-holds Inv-loop μ-loop
 loop-holds c =
-    let s = c .before .before .before .before in
+    let s = c .before .before .before in
     let a = s .args in
     (omega arith, refl, lines-begin (a .p) (a .n) (a .residues .now) (a .levels .now) (a .marks .now) (s .pre .0) (a .text .now))
 
 put-class-requires : tie.Need-put-class-requires Inv-loop μ-loop
 put-class-requires c κs =
     let b = c .before .before in
-    let s = b .before .before .before .before .before in
+    let s = b .before .before .before .before in
     (s .pre .0, c .before .loop-test .taken, omega (arith, s .pre .1, b .loop .inv .1, c .before .loop-test .taken))
 
 add-i : tie.Need-add-i Inv-loop μ-loop
@@ -39,7 +39,7 @@ loop-again : tie.Need-loop-again Inv-loop μ-loop
 loop-again c =
     let d = c .before .before in
     let b = d .before .before .before in
-    let s = b .before .before .before .before .before in
+    let s = b .before .before .before .before in
     let a = s .args in
     let h = d .before .before .loop-test .taken in (
       omega (arith, h),
@@ -54,7 +54,7 @@ same-length c = c .before .loop .inv .1
 returns : tie.Need-returns Inv-loop μ-loop
 returns c =
     let b = c .before in
-    let s = b .before .before .before .before .before in
+    let s = b .before .before .before .before in
     let a = s .args in
     b .loop .inv .2
     ∙ lines-end (a .p) (a .n) (a .residues .now) (a .levels .now) (a .marks .now) (s .pre .0) (a .text .now) (b .loop .i)
