@@ -4,13 +4,13 @@ use mathlib.Core.List.{List, [], _∷_, _++_}
 use mathlib.Core.Bool.{false, _||_}
 use Prim.Native.Nat.{ℕ, _^_, _≤_, _<_, min}
 use native.Mathlib.Omega.{arith}
-use borrow.Author.Tests.{lt-ltb, le-ltb}
+use borrow.Author.Tests.{ltb-false, lt-ltb, le-ltb}
 use lib.Dec.{ltb}
 use lib.IntN.{ℤ}
-use lib.ListN.{length}
+use lib.ListN.{length, getD}
 use Rattle.theory.specs.Range.{least}
 use Rattle.theory.specs.SignedClass.{SignedClass}
-use Rattle.theory.proofs.Tests.{or-fails-left}
+use Rattle.theory.proofs.Tests.{or-fails-left, or-fails-right}
 use Rattle.theory.proofs.Least.{least-or}
 use Rattle.refusal.specs.declared.Refusal.{Refusal}
 use Rattle.refusal.specs.declared.Refusal.the-variants.{Lengths, Entry}
@@ -36,13 +36,18 @@ first-marked p n L marks e =
     least-or (faultAt p n L) (markAbove marks) (length L) 0
     ∙ ap (λ (k : ℕ). min (least (faultAt p n L) (length L) 0) (least (markAbove marks) k 0)) e
 
-marked-faultless : (p n : ℕ) (L : List SignedClass) (marks : List ℕ) → rule7Marked p n L marks ≡ passes
-    → (j : ℕ) → j < length L → faultAt p n L j ≡ false
+-- where rule 7 passes, no entry has either
+marked-none : (p n : ℕ) (L : List SignedClass) (marks : List ℕ) → rule7Marked p n L marks ≡ passes
+    → (j : ℕ) → j < length L → (faultAt p n L j ≡ false) × (markAbove marks j ≡ false)
 unfolding rule7Marked firstMarkedFault
-marked-faultless p n L marks e j h =
+marked-none p n L marks e j h =
     let first = firstMarkedFault p n L marks in
-    or-fails-left (faultAt p n L j) (markAbove marks j)
-    (none-below (λ i. faultAt p n L i || markAbove marks i) (length L) (rule-passes (ltb first (length L)) (Entry first) e) j h)
+    let none = none-below (λ i. faultAt p n L i || markAbove marks i) (length L) (rule-passes (ltb first (length L)) (Entry first) e) j h in
+    (or-fails-left (faultAt p n L j) (markAbove marks j) none, or-fails-right (faultAt p n L j) (markAbove marks j) none)
+
+mark-small : (marks : List ℕ) (i : ℕ) → markAbove marks i ≡ false → getD marks i 0 ≤ 2
+unfolding markAbove
+mark-small marks i e = ltb-false 2 (getD marks i 0) e
 
 marked-refuses : (p n : ℕ) (L : List SignedClass) (marks : List ℕ) → firstMarkedFault p n L marks < length L
     → rule7Marked p n L marks ≡ refuses (Entry (firstMarkedFault p n L marks))
@@ -73,7 +78,8 @@ module _ (p n : ℕ) (residues : List ℤ) (levels marks : List ℕ) where
       let own-parts = tried-first six (seven ∷ []) (parts .1) in
       let U = passes-usable p n (parts .0) m (both .1) in
       let same = same-three-lengths (length residues) (length levels) (length marks) (own-parts .0) in
-      let F : Faultless p n L = faultless-list p n L (marked-faultless p n L marks (tried-first seven [] (own-parts .1) .0)) in
+      let none = marked-none p n L marks (tried-first seven [] (own-parts .1) .0) in
+      let F : Faultless p n L = faultless-list p n L (λ i h. none i h .0) in
       record {
         accepted = both .0;
         modulus = U;
@@ -87,6 +93,7 @@ module _ (p n : ℕ) (residues : List ℤ) (levels marks : List ℕ) where
               faultless-few p n L (omega (arith, U .prime .two)) F,
               classes-same-length residues levels (same .0),
             );
+        marks-small = λ i h. mark-small marks i (none i (omega (arith, classes-same-length residues levels (same .0))) .1);
       }
 
   -- a refusal is that of any longer list of rules that begins with these

@@ -1,7 +1,7 @@
 -- Decimal numbers in fixed columns, as bytes (01, "Lent lists, map and text").
 use mathlib.Core.Bool.{true, false}
 use mathlib.Core.List.{List, [], _∷_, _++_}
-use Prim.Native.Nat.{ℕ, zero, suc, _+_, _/_, _%_}
+use Prim.Native.Nat.{ℕ, zero, suc, _+_, _*_, _/_, _%_, _^_, _<_}
 use lib.Dec.{ltb}
 use lib.IntN.{ℤ, pos, negsuc}
 use lib.ListN.{replicate}
@@ -42,3 +42,8 @@ unfoldable pub signedColumn : ℕ → ℤ → List ℕ
 unfolding column minusColumn
 signedColumn w (pos x) = column w x
 signedColumn w (negsuc k) = minusColumn w (suc k)
+
+-- a number that has no more than w characters, its minus included: no digit is lost in a column of width w
+abbrev pub FitsColumn : ℕ → ℤ → Type 0
+FitsColumn w (pos x) = (0 < w) × (x < 10 ^ w)
+FitsColumn w (negsuc k) = suc k * 10 < 10 ^ w

@@ -6,14 +6,14 @@ use Prim.Native.Nat.{ℕ, suc, _+_, _*_, _≤_, _<_}
 use native.Mathlib.Omega.{arith}
 use lib.IntN.{ℤ, pos, negsuc}
 use lib.ListN.{length, drop, length-drop}
-use Rattle.columns.specs.Column.{column, signedColumn}
+use Rattle.columns.specs.Column.{column, signedColumn, FitsColumn}
 use Rattle.refusal.specs.Rules.{passes, tried}
 use Rattle.text.specs.declared.Read.the-variants.{Given}
 use Rattle.text.specs.declared.Problem.{Problem}
 use Rattle.text.specs.Form.{coefficientRules, coefficientsAt, rowOf}
 use Rattle.text.specs.Form.{problemAt, problemOf}
 use Rattle.text.specs.Input.{coefficientLines, inputText}
-use Rattle.text.proofs.ReadBack.{FitsColumn, InRange}
+use Rattle.text.proofs.ReadBack.{InRange}
 use Rattle.columns.proofs.Length.{column-length, signed-length}
 use Rattle.text.proofs.Placed.{after, unsigned-placed, signed-placed, end-placed}
 use Rattle.text.proofs.Rows.{line-passes}

@@ -12,14 +12,13 @@ use lib.Dec.{leb}
 use lib.IntN.{ℤ}
 use lib.ListN.{length, getD, take, drop, length-append, length-drop, take-append-drop, List·getD-eq-default}
 use lib.Seq.{length-take-le, drop-drop, drop-cons, take-at, drop-at, getD-drop}
-use Rattle.columns.specs.Column.{column, signedColumn}
+use Rattle.columns.specs.Column.{column, signedColumn, FitsColumn}
 use Rattle.text.specs.declared.column.Part.the-variants.{Fault}
 use Rattle.text.specs.Reading.{scan, unsignedOf, signedOf}
 use Rattle.text.specs.Text.{columnAt, unsignedValue, signedValue}
 use Rattle.columns.proofs.Length.{column-length, signed-length}
 use Rattle.text.proofs.Values.{column-whole, column-incomplete}
-use Rattle.text.proofs.ReadBack.{FitsColumn, InRange, unsigned-reads-column, signed-reads-column, unsigned-is-column}
-use Rattle.text.proofs.ReadBack.{signed-is-column}
+use Rattle.text.proofs.ReadBack.{InRange, unsigned-reads-column, signed-reads-column, unsigned-is-column, signed-is-column}
 
 -- From a place on
 

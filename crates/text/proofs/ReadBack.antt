@@ -11,7 +11,7 @@ use borrow.Author.Tests.{ne-eqb, le-leb, leb-true}
 use lib.Dec.{leb}
 use lib.IntN.{ℤ, pos, negsuc, negℤ}
 use lib.ListN.{length, replicate}
-use Rattle.columns.specs.Column.{blank, minus, column, sign, minusColumn, signedColumn}
+use Rattle.columns.specs.Column.{blank, minus, column, sign, minusColumn, signedColumn, FitsColumn}
 use Rattle.text.specs.declared.column.Part.{Part}
 use Rattle.text.specs.declared.column.Part.the-variants.{Blanks, Minus, Number, Fault}
 use Rattle.text.specs.Reading.{afterDigit, step, scan, unsignedOf, signedOf}
@@ -85,11 +85,7 @@ scan-minus (suc w) x l h = go (scan-minus w (x / 10)) (decLe x 9)
         ∙ scan-digit (minusColumn w y) (Number true y) d (omega arith) (ih more small)
         ∙ number-digit true y d more ∙ ap (λ (z : ℕ). Number true z) (sym k)
 
--- What fits a column of width w, and what fits 64 bits
-
-abbrev pub FitsColumn : ℕ → ℤ → Type 0
-FitsColumn w (pos x) = (0 < w) × (x < 10 ^ w)
-FitsColumn w (negsuc k) = suc k * 10 < 10 ^ w
+-- What fits 64 bits
 
 abbrev pub InRange : ℤ → Type 0
 InRange (pos x) = x ≤ 9223372036854775807

@@ -6,4 +6,5 @@ pub mod Answers
 pub mod ClassLines
 pub mod Listing
 pub mod Checked
+pub mod Fits
 pub mod Examples

@@ -4,7 +4,7 @@ use mathlib.Core.Bool.{true, false}
 use mathlib.Core.List.{List}
 use Prim.Native.Nat.{ℕ, _≤_, _<_}
 use lib.IntN.{ℤ}
-use lib.ListN.{length}
+use lib.ListN.{length, getD}
 use lib.Signed.{ltZ}
 use Rattle.theory.specs.Class.{share}
 use Rattle.theory.specs.SignedClass.{SignedClass, IsSignedClass, natural, signedSlot}
@@ -27,7 +27,7 @@ pub record UsableList (p n : ℕ) (residues : List ℤ) (levels : List ℕ) (m :
   pub faultless : Faultless p n (classesOf residues levels)
   pub few : length residues ≤ m
 
--- the same with marks
+-- the same with marks, none of which is above 2
 pub record UsableMarked (p n : ℕ) (residues : List ℤ) (levels marks : List ℕ) (m : ℕ) : Type 0 where
   pub accepted : tried (markedRules p n residues levels marks) ≡ passes
   pub modulus : Usable p n m
@@ -35,3 +35,4 @@ pub record UsableMarked (p n : ℕ) (residues : List ℤ) (levels marks : List �
   pub same-marks : length residues ≡ length marks
   pub faultless : Faultless p n (classesOf residues levels)
   pub few : length residues ≤ m
+  pub marks-small : (i : ℕ) → i < length residues → getD marks i 0 ≤ 2
