@@ -3,8 +3,7 @@ use mathlib.Core.Path.{_≡_}
 use Prim.Native.Nat.{ℕ, _^_, _≤_}
 use lib.ListN.{length}
 use Rattle.theory.specs.Polynomial.{roots}
-use Rattle.theory.specs.Class.{Class}
-use Rattle.theory.specs.ClassList.{residuesOf, levelsOf}
+use Rattle.theory.specs.SignedClass.{SignedClass, residuesOf, levelsOf}
 use Rattle.theory.specs.Shortest.{count}
 use Rattle.refusal.specs.Rules.{passes}
 use Rattle.numbers.specs.inner.Usable.{Usable}
@@ -40,7 +39,7 @@ module _ (x : Input) {k roots-found : ℕ} (A : Accepted x k roots-found) where
   first-slots = rw (first-residues, first-levels) (classes-of-parts (solution (x .f) (x .p) (x .n)))
 
   pub residues-long : k ≤ length (listsLeft x .residues)
-  residues-long = found-long (x .f) (x .p) (x .n) (x .given) (A .answer) (λ (c : Class). c .residue) (listsLeft x .residues) first-residues
+  residues-long = found-long (x .f) (x .p) (x .n) (x .given) (A .answer) (λ (c : SignedClass). c .residue) (listsLeft x .residues) first-residues
 
   pub levels-long : k ≤ length (listsLeft x .levels)
-  levels-long = found-long (x .f) (x .p) (x .n) (x .given) (A .answer) (λ (c : Class). c .level) (listsLeft x .levels) first-levels
+  levels-long = found-long (x .f) (x .p) (x .n) (x .given) (A .answer) (λ (c : SignedClass). c .level) (listsLeft x .levels) first-levels

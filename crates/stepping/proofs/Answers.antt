@@ -1,13 +1,16 @@
 -- The answers of a row of calls, one call at a time.
 use mathlib.Core.Path.{_≡_, refl, sym, ap, ap₂, _∙_}
+use mathlib.Core.Bool.{Bool}
 use mathlib.Core.List.{List, [], _∷_, _++_, map, append-nil}
 use Prim.Native.Nat.{ℕ, zero, suc, _+_, _-_, _^_, _≤_, _<_}
 use native.Mathlib.Omega.{arith}
 use native.Mathlib.Decide.{decLt}
+use lib.IntN.{ℤ}
 use lib.ListN.{length, length-map, set, drop, getD}
 use lib.Seq.{set-at, append-snoc, drop-length}
 use Rattle.theory.specs.Lists.{here}
 use Rattle.theory.specs.ClassList.{members, from}
+use Rattle.theory.specs.SignedClass.{naturals}
 use Rattle.theory.specs.Stepping.{Answer, answersFrom, following}
 use Rattle.theory.proofs.Lists.Fill.{drop-next}
 use Rattle.theory.proofs.Lists.Map.{map-append}
@@ -109,14 +112,17 @@ from-point l =
       only-point = λ r e. let same : Point ≡ r = cc e in (ap numberOf (sym same), ap placeOf (sym same));
     }
 
-module _ (p n : ℕ) (residues levels : List ℕ) (C : UsableList p n residues levels (p ^ n)) (q : ℕ) where
-  below : (r : ℕ) (rest : List ℕ) → from (members p (classesOf residues levels)) p n q ≡ r ∷ rest → r < p ^ n
+module _ (p n : ℕ) (residues : List ℤ) (levels : List ℕ) (C : UsableList p n residues levels (p ^ n)) (q : ℕ) where
+  abbrev S : ℕ → Bool
+  S = members p (naturals p (classesOf residues levels))
+
+  below : (r : ℕ) (rest : List ℕ) → from S p n q ≡ r ∷ rest → r < p ^ n
   unfolding from
   below r rest e =
       omega (
         arith,
-        passing-sound (members p (classesOf residues levels)) (p ^ n - q) q r (rw e (here refl)) .high,
-        passing-sound (members p (classesOf residues levels)) (p ^ n - q) q r (rw e (here refl)) .low,
+        passing-sound S (p ^ n - q) q r (rw e (here refl)) .high,
+        passing-sound S (p ^ n - q) q r (rw e (here refl)) .low,
       )
 
   pub reached : Reached (nextOf p n residues levels q)
@@ -126,7 +132,7 @@ module _ (p n : ℕ) (residues levels : List ℕ) (C : UsableList p n residues l
       go : Dec (q < p ^ n) → Reached (nextOf p n residues levels q)
       go (yes h) =
           rw (checked-leads p n residues levels C (rule8 q (p ^ n) ∷ []), rule8-passes q (p ^ n) h)
-          (from-list (p ^ n) (C .modulus .within) (from (members p (classesOf residues levels)) p n q) below)
+          (from-list (p ^ n) (C .modulus .within) (from S p n q) below)
       go (no h) =
           rw (checked-leads p n residues levels C (rule8 q (p ^ n) ∷ []), rule8-refuses q (p ^ n) (omega arith))
-          (from-point (from (members p (classesOf residues levels)) p n q))
+          (from-point (from S p n q))

@@ -4,16 +4,19 @@ use mathlib.Core.Bool.{Bool}
 use mathlib.Core.List.{List, map}
 use Prim.Native.Nat.{ℕ, _^_, _≤_, _<_}
 use native.Mathlib.Omega.{arith}
+use lib.IntN.{ℤ}
 use lib.ListN.{length, take, length-map}
 use Rattle.theory.specs.Polynomial.{roots}
-use Rattle.theory.specs.Class.{Class}
-use Rattle.theory.specs.ClassList.{residuesOf, levelsOf, members}
-use Rattle.theory.specs.Shortest.{shortest, count}
+use Rattle.theory.specs.ClassList.{members}
+use Rattle.theory.specs.Shortest.{count}
+use Rattle.theory.specs.SignedClass.{SignedClass, naturals, residuesOf, levelsOf}
+use Rattle.theory.specs.SignedList.{signedList}
+use Rattle.theory.specs.SignedDemand.{SignedDemand}
 use Rattle.theory.specs.Stepping.{Answer, nextIn, answersFrom, claimed}
-use Rattle.theory.specs.ThirdDemand.{ThirdDemand}
-use Rattle.theory.proofs.ThirdDemand as theory
-use Rattle.theory.proofs.Classes.Agree.{shortest-agree, count-agree}
+use Rattle.theory.proofs.Classes.Agree.{count-agree}
 use Rattle.theory.proofs.Polynomials.Roots.{at-most-D, all-zero-list}
+use Rattle.theory.proofs.Signed.Entries.{signed-length, signed-agree, signed-everything}
+use Rattle.theory.proofs.Signed.Demand.{signed-demand}
 use Rattle.refusal.specs.Rules.{filled}
 use Rattle.refusal.proofs.Rules.{filled-whole}
 use Rattle.solver.specs.Solve.{solution, solverVerdict}
@@ -26,15 +29,15 @@ use Rattle.stepping.proofs.Accept.{first-slots}
 use Rattle.classes.specs.Next.{nextOf, answerOf}
 use Rattle.classes.specs.inner.Usable.{UsableList}
 use Rattle.classes.proofs.Checks.{checked-accepted}
-use Rattle.classes.proofs.ShortestAccepted.{shortest-accepted}
-use Rattle.classes.proofs.NextAnswers.{shortest-answers}
+use Rattle.classes.proofs.ListAccepted.{list-accepted}
+use Rattle.classes.proofs.NextAnswers.{list-answers}
 
 module _ (x : Input) {k roots-found : ℕ} (A : Accepted x k roots-found) where
   abbrev S : ℕ → Bool
   S = roots (x .f) (x .p) (x .n)
 
-  abbrev L : List Class
-  L = shortest S (x .p) (x .n)
+  abbrev L : List SignedClass
+  L = signedList S (x .p) (x .n)
 
   two : 2 ≤ x .p
   two = accepted-usable x A .prime .two
@@ -50,16 +53,16 @@ module _ (x : Input) {k roots-found : ℕ} (A : Accepted x k roots-found) where
   unfolding solution
   number = sym (accepted-number x A)
 
-  on-list : ThirdDemand S (x .p) (x .n) (firstSlots x k)
-  on-list = rw slots-are (theory.third-demand S (x .p) (x .n) two)
+  on-list : SignedDemand S (x .p) (x .n) (firstSlots x k)
+  on-list = rw slots-are (signed-demand S (x .p) (x .n) two)
 
   -- next answers as next on the list's members
-  next-is : nextCall x k ≡ nextIn (members (x .p) L) (x .p) (x .n)
+  next-is : nextCall x k ≡ nextIn (members (x .p) (naturals (x .p) L)) (x .p) (x .n)
   unfolding nextCall solution
   next-is =
       fun-ext (λ q.
       rw (first-residues x A, first-levels x A)
-      (shortest-answers S (x .p) (x .n) (x .p ^ x .n) (accepted-usable x A) q))
+      (list-answers S (x .p) (x .n) (x .p ^ x .n) (accepted-usable x A) q))
 
   pub third-demand : Demand x k
   third-demand =
@@ -70,13 +73,19 @@ module _ (x : Input) {k roots-found : ℕ} (A : Accepted x k roots-found) where
         alone = λ R r e. on-list .alone R r (e ∙ sym (ap length slots-are ∙ number));
         disjoint = λ i j hi hj.
             on-list .disjoint i j (omega (arith, number, ap length slots-are)) (omega (arith, number, ap length slots-are));
-        at-most-D = λ z. omega (arith, number, at-most-D (x .f) (x .p) (x .n) (accepted-usable x A .prime) z);
-        everything = λ z. slots-are ∙ all-zero-list (x .f) (x .p) (x .n) two z;
-        stepping = λ q m. ap (λ (next : ℕ → Answer). answersFrom next q m) next-is ∙ theory.third-demand S (x .p) (x .n) two .stepping q m;
+        at-most-D = λ z.
+            omega (
+              arith,
+              number,
+              signed-length S (x .p) (x .n) hp,
+              at-most-D (x .f) (x .p) (x .n) (accepted-usable x A .prime) z,
+            );
+        everything = λ z. slots-are ∙ signed-everything S (x .p) (x .n) hp (all-zero-list (x .f) (x .p) (x .n) two z);
+        stepping = λ q m. ap (λ (next : ℕ → Answer). answersFrom next q m) next-is ∙ signed-demand S (x .p) (x .n) two .stepping q m;
       }
 
   -- The function that makes the calls, on the lists as the solver left them
-  module _ (residues levels : List ℕ) (residues-are : residues ≡ listsLeft x .residues) (levels-are : levels ≡ listsLeft x .levels) where
+  module _ (residues : List ℤ) (levels : List ℕ) (residues-are : residues ≡ listsLeft x .residues) (levels-are : levels ≡ listsLeft x .levels) where
     first-parts : (take k residues ≡ firstResidues x k) × (take k levels ≡ firstLevels x k)
     first-parts = (ap (take k) residues-are, ap (take k) levels-are)
 
@@ -85,7 +94,7 @@ module _ (x : Input) {k roots-found : ℕ} (A : Accepted x k roots-found) where
     list-usable =
         checked-accepted (x .p) (x .n) (take k residues) (take k levels) (x .p ^ x .n)
         (rw (first-parts .0 ∙ first-residues x A, first-parts .1 ∙ first-levels x A)
-        (shortest-accepted S (x .p) (x .n) (x .p ^ x .n) (accepted-usable x A)))
+        (list-accepted S (x .p) (x .n) (x .p ^ x .n) (accepted-usable x A)))
 
     pub answers-left : (q : ℕ) (old answers : List ℕ)
         → answers ≡ map encode (answersFrom (λ (r : ℕ). answerOf (nextOf (x .p) (x .n) (take k residues) (take k levels) r)) q (length old))
@@ -106,7 +115,7 @@ module _ (x y : Input) {k c k′ c′ : ℕ} (A : Accepted x k c) (B : Accepted 
   same-list : solution (x .f) (x .p) (x .n) ≡ solution (y .f) (y .p) (y .n)
   unfolding solution
   same-list =
-      shortest-agree (S x A) (S y B) (x .p) (x .n) (hp x A) agree ∙ ap₂ (shortest (S y B)) same-p same-n
+      signed-agree (S x A) (S y B) (x .p) (x .n) (hp x A) agree ∙ ap₂ (signedList (S y B)) same-p same-n
 
   counts : count (S x A) (x .p) (x .n) ≡ count (S y B) (y .p) (y .n)
   counts = count-agree (S x A) (S y B) (x .p) (x .n) (hp x A) agree ∙ ap₂ (count (S y B)) same-p same-n

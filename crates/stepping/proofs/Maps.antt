@@ -7,6 +7,7 @@ use lib.ListN.{length}
 use Rattle.theory.specs.Polynomial.{roots}
 use Rattle.theory.specs.RootMap.{bit, mapLength}
 use Rattle.theory.specs.Rival.{Rival}
+use Rattle.theory.specs.SignedClass.{naturals}
 use Rattle.classes.specs.Rule7.{classesOf}
 use Rattle.rootmap.specs.declared.Counted.the-variants.{Ones}
 use Rattle.rootmap.specs.Map.{mapFilled, countedOf}
@@ -18,9 +19,9 @@ use Rattle.stepping.proofs.Demand.{third-demand, list-usable}
 -- after an accepted call of the solver with pⁿ up to 524,288, with a map of the right length
 module _ (x : Input) {k roots-found : ℕ} (A : Accepted x k roots-found) (small : x .p ^ x .n ≤ 524288) (old : List ℕ)
     (long : length old ≡ mapLength (x .p ^ x .n)) where
-  rival : Rival (roots (x .f) (x .p) (x .n)) (x .p) (x .n) (classesOf (firstResidues x k) (firstLevels x k))
+  rival : Rival (roots (x .f) (x .p) (x .n)) (x .p) (x .n) (naturals (x .p) (classesOf (firstResidues x k) (firstLevels x k)))
   unfolding firstSlots
-  rival = third-demand x A .rival
+  rival = third-demand x A .rival .on-members
 
   -- bit r is 1 exactly if r is a root
   pub map-roots : (r : ℕ) → r < x .p ^ x .n

@@ -4,7 +4,7 @@ use mathlib.Core.List.{List}
 use Prim.Native.Nat.{ℕ}
 use lib.IntN.{ℤ}
 use lib.ListN.{take}
-use Rattle.theory.specs.Class.{Class}
+use Rattle.theory.specs.SignedClass.{SignedClass}
 use Rattle.solver.specs.declared.Solved.the-variants.{Found}
 use Rattle.solver.specs.Solve.{Lists, solvedOf, listsAfter}
 use Rattle.classes.specs.Rule7.{classesOf}
@@ -25,12 +25,12 @@ unfoldable pub listsLeft : Input → Lists
 listsLeft x = listsAfter (x .f) (x .p) (x .n) (x .given)
 
 -- "the first k slots of residues and levels as the solver left them"
-abbrev pub firstResidues : Input → ℕ → List ℕ
+abbrev pub firstResidues : Input → ℕ → List ℤ
 firstResidues x k = take k (listsLeft x .residues)
 
 abbrev pub firstLevels : Input → ℕ → List ℕ
 firstLevels x k = take k (listsLeft x .levels)
 
 -- the classes in these slots
-unfoldable pub firstSlots : Input → ℕ → List Class
+unfoldable pub firstSlots : Input → ℕ → List SignedClass
 firstSlots x k = classesOf (firstResidues x k) (firstLevels x k)

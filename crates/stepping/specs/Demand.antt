@@ -3,14 +3,15 @@ use mathlib.Core.Path.{_≡_}
 use mathlib.Core.Bool.{true, false}
 use mathlib.Core.List.{List, [], _∷_}
 use Prim.Native.Nat.{ℕ, _≤_, _<_}
+use lib.IntN.{pos}
 use lib.ListN.{length}
 use Rattle.theory.specs.Lists.{Permutation}
 use Rattle.theory.specs.Polynomial.{reduced, roots}
 use Rattle.theory.specs.Degree.{allZero, degreeBound}
-use Rattle.theory.specs.Class.{Class, class, Member}
-use Rattle.theory.specs.Rival.{Rival}
+use Rattle.theory.specs.Class.{Member}
+use Rattle.theory.specs.SignedClass.{SignedClass, signedClass, natural, signedSlot}
+use Rattle.theory.specs.SignedDemand.{SignedRival}
 use Rattle.theory.specs.Stepping.{Answer, answersFrom, claimed}
-use Rattle.theory.specs.ClassList.{slot}
 use Rattle.classes.specs.Next.{nextOf, answerOf}
 use Rattle.stepping.specs.Call.{Input, firstResidues, firstLevels, firstSlots}
 
@@ -21,18 +22,18 @@ nextCall x k point = answerOf (nextOf (x .p) (x .n) (firstResidues x k) (firstLe
 pub record Demand (x : Input) (k : ℕ) : Type 0 where
   pub slots : length (firstSlots x k) ≡ k
   -- "its first k slots are a rival"
-  pub rival : Rival (roots (x .f) (x .p) (x .n)) (x .p) (x .n) (firstSlots x k)
+  pub rival : SignedRival (roots (x .f) (x .p) (x .n)) (x .p) (x .n) (firstSlots x k)
   -- "Every rival has at least k entries"
-  pub shortest : (R : List Class) → Rival (roots (x .f) (x .p) (x .n)) (x .p) (x .n) R → k ≤ length R
+  pub shortest : (R : List SignedClass) → SignedRival (roots (x .f) (x .p) (x .n)) (x .p) (x .n) R → k ≤ length R
   -- "and one with exactly k has the same pairs of residue and level as these slots, order aside"
-  pub alone : (R : List Class) → Rival (roots (x .f) (x .p) (x .n)) (x .p) (x .n) R → length R ≡ k → Permutation R (firstSlots x k)
+  pub alone : (R : List SignedClass) → SignedRival (roots (x .f) (x .p) (x .n)) (x .p) (x .n) R → length R ≡ k → Permutation R (firstSlots x k)
   -- "No residue is a member of the classes in two of these slots"
-  pub disjoint : (i j : ℕ) → i < k → j < k → (r : ℕ) → Member (x .p) (x .n) (slot (firstSlots x k) i) r
-      → Member (x .p) (x .n) (slot (firstSlots x k) j) r → i ≡ j
+  pub disjoint : (i j : ℕ) → i < k → j < k → (r : ℕ) → Member (x .p) (x .n) (natural (x .p) (signedSlot (firstSlots x k) i)) r
+      → Member (x .p) (x .n) (natural (x .p) (signedSlot (firstSlots x k) j)) r → i ≡ j
   -- at most D classes, unless all reduced coefficients are zero
   pub at-most-D : allZero (reduced (x .f) (x .p) (x .n)) ≡ false → k ≤ degreeBound (x .p) (reduced (x .f) (x .p) (x .n))
   -- "If all are zero, everything is a root": the one class of everything
-  pub everything : allZero (reduced (x .f) (x .p) (x .n)) ≡ true → firstSlots x k ≡ class 0 0 ∷ []
+  pub everything : allZero (reduced (x .f) (x .p) (x .n)) ≡ true → firstSlots x k ≡ signedClass (pos 0) 0 ∷ []
   -- "This is a single claim about the whole row of calls, for every f, p and n accepted and every q and m"
   pub stepping : (q m : ℕ) → answersFrom (nextCall x k) q m ≡ claimed (roots (x .f) (x .p) (x .n)) (x .p) (x .n) q m
 

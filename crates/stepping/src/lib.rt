@@ -21,7 +21,7 @@ pub fn step_through(
     coefficients: &[i64],
     p: u32,
     n: u32,
-    residues: &mut [u32],
+    residues: &mut [i32],
     levels: &mut [u8],
     marks: &mut [u8],
     start: u32,
@@ -55,7 +55,7 @@ pub fn step_through(
 }
 
 // The calls of next.
-fn ask(p: u32, n: u32, residues: &[u32], levels: &[u8], start: u32, answers: &mut [u64])
+fn ask(p: u32, n: u32, residues: &[i32], levels: &[u8], start: u32, answers: &mut [u64])
     requires { ⌜ UsableList p n (now residues) (now levels) (p ^ n) ⌝ }
     ensures { λ _. ⌜ now (answers .exit)
         ≡ map encode (answersFrom (λ (q : ℕ). answerOf (nextOf p n (now (residues .entry)) (now (levels .entry)) q)) start

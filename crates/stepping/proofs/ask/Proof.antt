@@ -28,7 +28,7 @@ next-root-requires c κs = search needs
 
 step-requires : tie.Need-step-requires Inv-loop μ-loop
 step-requires c κs =
-    let a = c .before .before .before .before .before .before in
+    let a = c .before .before .before .before .before in
     rw (c .next-root .ensures)
     (reached (a .args .p) (a .args .n) (a .args .residues .now) (a .args .levels .now) (a .pre) (c .before .before .loop .point))
 
@@ -48,12 +48,12 @@ loop-again : tie.Need-loop-again Inv-loop μ-loop
 loop-again c =
     let l = c .before .before .before .loop in
     let n = c .before .next-root in
-    let h : l .i < length (c .before .before .before .before .before .before .before .args .answers .now) =
+    let h : l .i < length (c .before .before .before .before .before .before .args .answers .now) =
     omega (arith, c .before .before .loop-test .taken, l .inv .1) in (
       omega arith,
       simp length-set (l .inv .1),
-      gone-next _ (c .before .before .before .before .before .before .before .args .start) (l .i) (l .point) _ _
-          (c .before .before .before .before .before .before .before .args .answers .now) (l .answers) h (l .inv .2)
+      gone-next _ (c .before .before .before .before .before .before .args .start) (l .i) (l .point) _ _
+          (c .before .before .before .before .before .before .args .answers .now) (l .answers) h (l .inv .2)
           (c .step .ensures .0 ∙ ap (λ (x : Next). encode (answerOf x)) (n .ensures))
           (c .step .ensures .1 ∙ ap (λ (x : Next). following (answerOf x) (l .point)) (n .ensures)),
     )

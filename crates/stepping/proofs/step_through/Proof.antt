@@ -14,7 +14,7 @@ use Rattle.stepping.proofs.step_through.Tie as tie
 
 module _ (c : tie.After-solve) where
   abbrev call : tie.Start
-  call = c .before .before .before .before .before .before .before .before
+  call = c .before .before .before .before .before .before .before
 
   abbrev input : Input
   input =
@@ -35,7 +35,7 @@ module _ (c : tie.After-solve) where
 
 module _ (c : tie.After-classes) where
   abbrev solved : tie.After-solve
-  solved = c .before .before .before .before .before .before .before .before
+  solved = c .before .before .before .before .before .before .before
 
   accepted : Accepted (input solved) (c .classes .given .0 .0) (c .classes .given .0 .1 .0)
   accepted = record { answer = sym (solved .solve .ensures .0) ∙ c .classes .given .1 }
@@ -108,7 +108,7 @@ same-length-7 c = search needs
 
 returns-2 : tie.Need-returns-2
 returns-2 c =
-    let s = c .before .before .before .before .before .before .before .before .before in
+    let s = c .before .before .before .before .before .before .before .before in
     let r = c .before .r .given in
     let a = call s .args in
     let v = refused-verdict (a .coefficients .now) _ _ (input s .given) (r .0 .0) (sym (s .solve .ensures .0) ∙ r .1) in
