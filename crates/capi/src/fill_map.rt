@@ -31,7 +31,7 @@ fn map_answer(mapped: Mapped) -> MapAnswer
 pub extern "C" fn wimpleclay_fill_map(
     p: u32,
     n: u32,
-    residues: &[u32],
+    residues: &[i32],
     levels: &[u8],
     map: &mut [u8],
 ) -> MapAnswer

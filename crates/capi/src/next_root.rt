@@ -43,7 +43,7 @@ fn next_answer(next: Next) -> NextAnswer
 pub extern "C" fn wimpleclay_next_root(
     p: u32,
     n: u32,
-    residues: &[u32],
+    residues: &[i32],
     levels: &[u8],
     point: u32,
 ) -> NextAnswer

@@ -37,7 +37,7 @@ pub extern "C" fn wimpleclay_solve(
     coefficients: &[i64],
     p: u32,
     n: u32,
-    residues: &mut [u32],
+    residues: &mut [i32],
     levels: &mut [u8],
     marks: &mut [u8],
 ) -> SolveAnswer

@@ -37,7 +37,7 @@ fn write_answer(written: Written) -> WriteAnswer
 pub extern "C" fn wimpleclay_write_classes(
     p: u32,
     n: u32,
-    residues: &[u32],
+    residues: &[i32],
     levels: &[u8],
     marks: &[u8],
     text: &mut [u8],

@@ -22,7 +22,7 @@ same-length-3 c = search needs
 
 returns : tie.Need-returns
 returns c =
-    let e = c .before .before .before .before .before .before .before .solve .ensures in
+    let e = c .before .before .before .before .before .before .solve .ensures in
     (c .solve-answer .ensures ∙ ap solveAnswer (e .0), e .1)
 
 pub wimpleclay-solve-spec : {M : Type 1} → statement M
