@@ -10,3 +10,4 @@ pub mod MarkedChecks
 pub mod ListAccepted
 pub mod NextMember
 pub mod NextAnswers
+pub mod Examples

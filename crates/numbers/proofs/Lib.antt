@@ -3,3 +3,4 @@ pub mod Saturated
 pub mod Words
 pub mod Rules
 pub mod Composite
+pub mod Places

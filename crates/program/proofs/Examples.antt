@@ -5,7 +5,7 @@ use Prim.Native.Nat.{ℕ}
 use lib.ListN.{replicate}
 use Rattle.theory.specs.Prime.{isComposite}
 use Rattle.theory.specs.Polynomial.{roots}
-use Rattle.theory.specs.Shortest.{shortest}
+use Rattle.theory.specs.SignedList.{signedList}
 use Rattle.theory.specs.Mark.{mark}
 use Rattle.numbers.specs.Modulus.{rule4, rule14, rule5}
 use Rattle.solver.specs.Solve.{solution}
@@ -28,14 +28,14 @@ printed-input =
     ++ blanks 19 ++ 48 ∷ 10 ∷ []
     ++ blanks 19 ++ 49 ∷ 10 ∷ []
 
--- the lines of 2, 4, 2, 4, of 1, 3, 2, 0 and of 7, 3, 2, 0
+-- the lines of 2, 4, 2, 4, of −1, 3, 2, 0 and of 1, 3, 2, 0
 abbrev printed-output : List ℕ
 printed-output =
     single 50 ++ single 52 ++ single 50 ++ single 52 ++ 10 ∷ []
+    ++ blanks 9 ++ 45 ∷ 49 ∷ [] ++ single 51 ++ single 50 ++ single 48 ++ 10 ∷ []
     ++ single 49 ++ single 51 ++ single 50 ++ single 48 ++ 10 ∷ []
-    ++ single 55 ++ single 51 ++ single 50 ++ single 48 ++ 10 ∷ []
 
 -- "The program reads the first block on standard input and prints the second"
 pub printed-example : printedText printed-input ≡ printed-output
-unfolding printedText problemOf rule4 rule14 rule5 isComposite solution shortest roots mark outputText
+unfolding printedText problemOf rule4 rule14 rule5 isComposite solution signedList roots mark outputText
 printed-example = refl

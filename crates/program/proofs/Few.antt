@@ -10,7 +10,10 @@ use lib.ListN.{length}
 use Rattle.theory.specs.Degree.{allZero}
 use Rattle.theory.specs.Polynomial.{reduced, roots}
 use Rattle.theory.specs.Shortest.{shortest}
+use Rattle.theory.specs.SignedList.{signedList}
+use Rattle.theory.proofs.Numbers.Prime.{prime-pos}
 use Rattle.theory.proofs.Polynomials.Roots.{all-zero-list, at-most-D, D-lt}
+use Rattle.theory.proofs.Signed.Entries.{signed-length}
 use Rattle.refusal.specs.Rules.{passes, tried}
 use Rattle.refusal.proofs.Rules.{coefficients-lead, rule6-three-passes, rule11-passes}
 use Rattle.numbers.specs.declared.Modulus.{Modulus}
@@ -32,9 +35,12 @@ pub solution-few : (f : List ℤ) {p n m : ℕ} → Usable p n m → length f �
 unfolding solution
 solution-few f {p} {n} U few = go (allZero (reduced f p n)) refl
   where
-    go : (t : Bool) → allZero (reduced f p n) ≡ t → length (shortest (roots f p n) p n) ≤ 64
-    go true z = omega (arith, ap length (all-zero-list f p n (U .prime .two) z))
-    go false z = omega (arith, at-most-D f p n (U .prime) z, D-lt f p n (U .prime) z)
+    same : length (signedList (roots f p n) p n) ≡ length (shortest (roots f p n) p n)
+    same = signed-length (roots f p n) p n (prime-pos (U .prime))
+
+    go : (t : Bool) → allZero (reduced f p n) ≡ t → length (signedList (roots f p n) p n) ≤ 64
+    go true z = omega (arith, same, ap length (all-zero-list f p n (U .prime .two) z))
+    go false z = omega (arith, same, at-most-D f p n (U .prime) z, D-lt f p n (U .prime) z)
 
 -- so the rules on the slots pass
 slots-pass : (given : Lists) → Slots64 given → (k : ℕ) → k ≤ 64 → tried (listRules given k) ≡ passes

@@ -5,6 +5,7 @@ pub mod Accepted
 pub mod Solved
 pub mod Read
 pub mod Fits
+pub mod Columns
 pub mod Examples
 pub mod Prefix
 pub mod Enough

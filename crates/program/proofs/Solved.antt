@@ -5,13 +5,12 @@ use Prim.Native.Nat.{ℕ, _+_, _*_, _^_, _≤_, _<_}
 use native.Mathlib.Omega.{arith}
 use lib.IntN.{ℤ}
 use lib.ListN.{length}
-use Rattle.theory.specs.Class.{Class}
+use Rattle.theory.specs.SignedClass.{SignedClass, residuesOf, levelsOf}
 use Rattle.refusal.specs.declared.Refusal.{Refusal}
 use Rattle.refusal.specs.Rules.{Verdict, passes, filled}
 use Rattle.numbers.specs.inner.Usable.{Usable}
 use Rattle.numbers.proofs.Rules.{passes-usable}
 use Rattle.solver.specs.declared.Solved.the-variants.{Found, Refused}
-use Rattle.theory.specs.ClassList.{residuesOf, levelsOf}
 use Rattle.solver.specs.Solve.{Lists, solution, solvedOf, marksOf}
 use Rattle.solver.proofs.Answered.{refused-verdict, found-passes}
 use Rattle.classes.specs.Rule7.{classesOf}
@@ -98,11 +97,11 @@ module _ (f : List ℤ) (p n : ℕ) (some : 0 < length f) (few : length f ≤ 65
         ≡ filled (bufferVerdict (solvedText f p n) (length old)) (solvedText f p n) old
     written-text old =
         ap₂ (λ (v : Verdict) (t : List ℕ). filled v t old) (verdict-is (length old))
-        (ap (λ (L : List Class). outputText p n L (marksOf f p n)) (classes-of-parts (solution f p n)))
+        (ap (λ (L : List SignedClass). outputText p n L (marksOf f p n)) (classes-of-parts (solution f p n)))
         ∙ ap (λ (t : List ℕ). filled (bufferVerdict t (length old)) t old) (sym text-is)
 
     -- the writer on these lists
-    module _ (residues levels marks : List ℕ) (er : residues ≡ residuesOf (solution f p n)) (el : levels ≡ levelsOf (solution f p n))
+    module _ (residues : List ℤ) (levels marks : List ℕ) (er : residues ≡ residuesOf (solution f p n)) (el : levels ≡ levelsOf (solution f p n))
         (em : marks ≡ marksOf f p n) where
       pub block-answer : (r : Written) (bytes : ℕ) → r ≡ writtenOf p n residues levels marks bytes → r ≡ writtenIn (solvedText f p n) bytes
       block-answer r bytes e =

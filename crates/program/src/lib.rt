@@ -40,7 +40,7 @@ fn print_problem(coefficients: &[i64], p: u32, n: u32, out: &mut [u8]) -> Writte
         ≡ filled (bufferVerdict (solvedText (now (coefficients .entry)) p n) (length (now (out .entry))))
         (solvedText (now (coefficients .entry)) p n) (now (out .entry)) ⌝ }
 {
-    let mut residues = [0u32; 64];
+    let mut residues = [0i32; 64];
     let mut levels = [0u8; 64];
     let mut marks = [0u8; 64];
     match solver::solve(coefficients, p, n, &mut residues, &mut levels, &mut marks) {

@@ -11,4 +11,5 @@ pub mod Placed
 pub mod Input
 pub mod Accepted
 pub mod Longest
+pub mod Places
 pub mod Examples

@@ -6,6 +6,7 @@ use lib.IntN.{pos, negsuc}
 use lib.ListN.{replicate}
 use Rattle.theory.specs.SignedClass.{signedClass}
 use Rattle.refusal.specs.declared.Refusal.the-variants.{TooFewSlots}
+use Rattle.columns.specs.Column.{signedColumn}
 use Rattle.writer.specs.Output.{outputText, refusalLine}
 
 -- a byte behind ten blanks
@@ -19,6 +20,11 @@ pub printed-block : outputText 2 4 (signedClass (negsuc 0) 3 ∷ signedClass (po
     ++ single 49 ++ single 51 ++ single 50 ++ single 48 ++ 10 ∷ []
 unfolding outputText
 printed-block = refl
+
+-- −2,147,483,647, below any residue of least size modulo a number of 32 bits, takes all eleven columns
+pub least-residue : signedColumn 11 (negsuc 2147483646) ≡ 45 ∷ 50 ∷ 49 ∷ 52 ∷ 55 ∷ 52 ∷ 56 ∷ 51 ∷ 54 ∷ 52 ∷ 55 ∷ []
+unfolding signedColumn
+least-residue = refl
 
 -- "The first case with one slot: refused 11, place 2."
 pub printed-refusal : refusalLine (TooFewSlots 2) ≡ replicate 9 32 ++ 49 ∷ 49 ∷ [] ++ single 50 ++ 10 ∷ []

@@ -14,8 +14,11 @@ use Rattle.theory.proofs.Numbers.Integers.{up, down}
 use Rattle.theory.proofs.Numbers.Power.{exponent-lt}
 use Rattle.theory.proofs.Numbers.Prime.{prime-pos}
 use Rattle.theory.proofs.Signed.Centered.{in-range}
+use Rattle.refusal.specs.declared.Refusal.{Refusal}
+use Rattle.refusal.specs.Number.{numberOf, placeOf}
 use Rattle.refusal.specs.Rules.{Verdict, passes, tried, rule12}
 use Rattle.refusal.proofs.Rules.{tried-both}
+use Rattle.refusal.proofs.Places.{number-at-most}
 use Rattle.numbers.specs.Modulus.{powerOr}
 use Rattle.numbers.specs.inner.Usable.{Usable}
 use Rattle.classes.specs.Rule7.{classesOf}
@@ -24,24 +27,29 @@ use Rattle.classes.specs.inner.Usable.{UsableMarked}
 use Rattle.classes.proofs.Entries.{classes-same-length}
 use Rattle.classes.proofs.Faults.{faultless-few, faultless-most}
 use Rattle.classes.proofs.MarkedChecks.{marked-accepted}
-use Rattle.writer.specs.Fits.{Fits, OutputFits}
+use Rattle.writer.specs.Fits.{Fits, OutputFits, RefusalFits}
 use Rattle.writer.specs.Written.{writerVerdict}
 
 -- numbers of 32 bits
 pub small-fits : (x : ℕ) → x ≤ 4294967295 → Fits (pos x)
 small-fits x h = (omega arith, omega arith)
 
--- and residues of least size, of which the least takes all eleven characters
+-- residues of least size, of which the least takes all eleven characters
 residue-fits : (q : ℕ) (z : ℤ) → q ≤ 4294967295 → isCentered q z ≡ true → Fits z
 unfolding up down
 residue-fits q (pos k) h e = small-fits k (omega (arith, in-range q (pos k) e .fits))
 residue-fits q (negsuc k) h e = omega (arith, in-range q (negsuc k) e .above)
 
+-- the line of a refusal whose place has 32 bits
+pub refusal-fits : (r : Refusal) → placeOf r ≤ 4294967295 → RefusalFits r
+refusal-fits r h = record { number = small-fits (numberOf r) (omega (arith, number-at-most r)); place = small-fits (placeOf r) h }
+
 module _ (p n : ℕ) (residues : List ℤ) (levels marks : List ℕ) where
   abbrev L : List SignedClass
   L = classesOf residues levels
 
-  usable-fits : (m : ℕ) → UsableMarked p n residues levels marks m → OutputFits p n (classesOf residues levels) marks
+  -- of a list that the rules accept
+  pub usable-fits : (m : ℕ) → UsableMarked p n residues levels marks m → OutputFits p n (classesOf residues levels) marks
   unfolding natural memberCount
   usable-fits m C =
       record {

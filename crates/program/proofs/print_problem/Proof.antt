@@ -4,10 +4,10 @@ use mathlib.Core.List.{List}
 use Prim.Native.Nat.{ℕ, _≤_}
 use native.Mathlib.Omega.{arith}
 use borrow.Author.Needs.{needs}
-use lib.IntN.{ℤ}
+use lib.IntN.{ℤ, pos}
 use lib.ListN.{length, take, replicate}
 use lib.Seq.{length-take-le}
-use Rattle.theory.specs.ClassList.{residuesOf, levelsOf}
+use Rattle.theory.specs.SignedClass.{residuesOf, levelsOf}
 use Rattle.refusal.specs.Rules.{passes}
 use Rattle.solver.specs.declared.Solved.the-variants.{Found}
 use Rattle.solver.specs.Solve.{Lists, lists, solution, solvedOf, marksOf}
@@ -20,7 +20,7 @@ use Rattle.program.proofs.print_problem.Statement.{statement}
 use Rattle.program.proofs.print_problem.Tie as tie
 
 -- the lists as the solver gets them
-slots : Slots64 (lists (replicate 64 0) (replicate 64 0) (replicate 64 0))
+slots : Slots64 (lists (replicate 64 (pos 0)) (replicate 64 0) (replicate 64 0))
 slots = record { residues = refl; levels = refl; marks = refl }
 
 -- Where the solver found the list
@@ -39,7 +39,7 @@ module _ (c : tie.After-classes) where
   k = c .classes .given .0 .0
 
   abbrev given : Lists
-  given = lists (replicate 64 0) (replicate 64 0) (replicate 64 0)
+  given = lists (replicate 64 (pos 0)) (replicate 64 0) (replicate 64 0)
 
   found-it : solvedOf f (call .args .p) (call .args .n) given ≡ Found k (c .classes .given .0 .1 .0)
   found-it = sym (solved .solve .ensures .0) ∙ c .classes .given .1
@@ -68,7 +68,7 @@ module _ (c : tie.After-classes) where
       ap (λ (l : Lists). take k (l .marks)) (solved .solve .ensures .1) ∙ found-marks f (call .args .p) (call .args .n) given found-it
 
   -- the first slots of a list of 64 are as many
-  counted : (l : List ℕ) → 64 ≤ length l → k ≡ length (take k l)
+  counted : {A : Type 0} (l : List A) → 64 ≤ length l → k ≡ length (take k l)
   counted l h = sym (length-take-le k l (omega (arith, few)))
 
 slice-aggregate-solve : tie.Need-slice-aggregate-solve
