@@ -12,7 +12,7 @@ use rootmap::Mapped;
 
 // The map of the classes on these bytes, which are 77 before the call.
 pub(crate) fn map(
-    residues: [u32; 66],
+    residues: [i32; 66],
     levels: [u8; 66],
     mut map: [u8; 65536],
     call: Call,

@@ -6,7 +6,7 @@ use crate::prefix::bytes;
 use crate::prefix::words;
 use classes::Next;
 
-pub(crate) fn next(residues: [u32; 66], levels: [u8; 66], call: Call) -> Answer {
+pub(crate) fn next(residues: [i32; 66], levels: [u8; 66], call: Call) -> Answer {
     match classes::next_root(
         call.p,
         call.n,

@@ -1,6 +1,6 @@
 // The first entries of a list, or all of them where there are fewer.
 
-pub(crate) fn words(list: &[u32], k: usize) -> &[u32] {
+pub(crate) fn words(list: &[i32], k: usize) -> &[i32] {
     if k < list.len() { &list[0..k] } else { list }
 }
 
@@ -12,7 +12,7 @@ pub(crate) fn coefficients(list: &[i64], k: usize) -> &[i64] {
     if k < list.len() { &list[0..k] } else { list }
 }
 
-pub(crate) fn words_mut<'a>(list: &'a mut [u32], k: usize) -> &'a mut [u32] {
+pub(crate) fn words_mut<'a>(list: &'a mut [i32], k: usize) -> &'a mut [i32] {
     if k < list.len() {
         &mut list[0..k]
     } else {

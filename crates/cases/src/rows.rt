@@ -19,6 +19,11 @@ impl Row {
     pub(crate) fn item(self, i: usize) -> u64 {
         self.items[i % 256]
     }
+
+    // The number of index i with its sign, for one of 32 bits.
+    pub(crate) fn residue(self, i: usize) -> i32 {
+        with_sign_32(self.items[i % 256], self.signed[i % 256] < 0)
+    }
 }
 
 // The byte of index i, 0 after the last.
@@ -40,6 +45,15 @@ fn with_sign(x: u64, negative: bool) -> i64 {
         !((wrapping_sub_u64(x, 1) % 9223372036854775808) as i64)
     } else {
         (x % 9223372036854775808) as i64
+    }
+}
+
+// The same for a number of 32 bits.
+fn with_sign_32(x: u64, negative: bool) -> i32 {
+    if negative {
+        !((wrapping_sub_u64(x, 1) % 2147483648) as i32)
+    } else {
+        (x % 2147483648) as i32
     }
 }
 

@@ -20,7 +20,7 @@ fn slots(row: Row, i: usize) -> usize {
 
 // The solver's answer. Every slot holds 77 before the call.
 pub(crate) fn solve(f: [i64; 256], c: usize, call: Call, given: Row, expected: Row) -> Answer {
-    let mut residues = [77u32; 66];
+    let mut residues = [77i32; 66];
     let mut levels = [77u8; 66];
     let mut marks = [77u8; 66];
     match solver::solve(
@@ -43,27 +43,27 @@ pub(crate) fn solve(f: [i64; 256], c: usize, call: Call, given: Row, expected: R
 
 // Whether slot i has these numbers.
 fn is_slot(
-    residues: [u32; 66],
+    residues: [i32; 66],
     levels: [u8; 66],
     marks: [u8; 66],
     i: usize,
-    a: u64,
+    a: i32,
     t: u64,
     mark: u64,
 ) -> bool {
     let i = i % 66;
-    (residues[i] as u64 == a) & (levels[i] as u64 == t) & (marks[i] as u64 == mark)
+    (residues[i] == a) & (levels[i] as u64 == t) & (marks[i] as u64 == mark)
 }
 
 // Whether the first k slots have the expected classes and marks, and the later ones 77.
-fn same(residues: [u32; 66], levels: [u8; 66], marks: [u8; 66], k: usize, expected: Row) -> bool {
+fn same(residues: [i32; 66], levels: [u8; 66], marks: [u8; 66], k: usize, expected: Row) -> bool {
     let mut i: usize = 0;
     while i < 66 {
         let mut a = 77;
         let mut t = 77;
         let mut mark = 77;
         if i < k {
-            a = expected.item(i * 2 + 2);
+            a = expected.residue(i * 2 + 2);
             t = expected.item(i * 2 + 3);
             mark = expected.item(i + k % 67 * 2 + 2);
         }

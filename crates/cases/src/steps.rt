@@ -25,7 +25,7 @@ fn same(answers: [u64; 16], k: usize, expected: Row) -> bool {
 // The answers of so many calls, from a point. Every slot holds 77 before the call.
 pub(crate) fn steps(f: [i64; 256], c: usize, call: Call, expected: Row) -> Answer {
     let k = call.calls as usize % 17;
-    let mut residues = [77u32; 65];
+    let mut residues = [77i32; 65];
     let mut levels = [77u8; 65];
     let mut marks = [77u8; 65];
     let mut answers = [77u64; 16];

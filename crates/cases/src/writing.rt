@@ -11,7 +11,7 @@ use writer::Written;
 
 // The text of the classes on these bytes, which are 77 before the call. What is to be written stands in the input after the line.
 pub(crate) fn write(
-    residues: [u32; 66],
+    residues: [i32; 66],
     levels: [u8; 66],
     marks: [u8; 66],
     mut out: [u8; 65536],
