@@ -60,11 +60,11 @@ fn overlap(p: u32, residues: &[i32], levels: &[u8], m: usize, i: usize, q: u64, 
     ensures { λ r. ⌜ r ≡ overlapOf p (classesOf (now (residues .entry)) (now (levels .entry))) m i s ⌝ }
 {
     let a = residue_around(residues[i], q);
-    let j = index_of(residues, levels, m, a, s);
-    if j < i {
+    let found = index_of(residues, levels, m, a, s);
+    if found < i {
         return i;
     }
-    j
+    found
 }
 
 // The least of `best` and of the overlaps that entry i has with larger classes among the first m entries.

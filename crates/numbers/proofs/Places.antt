@@ -32,8 +32,7 @@ module _ (p n : ℕ) where
   modulus-place =
       tried-place 65535 (rule4 p ∷ []) (rule14 p ∷ rule5 p n ∷ []) (rule-place 65535 (outOfRange p) PrimeOutOfRange (omega arith), tt)
       (λ e.
-      tried-places 65535 (rule14 p ∷ rule5 p n ∷ [])
-      (
+      tried-places 65535 (rule14 p ∷ rule5 p n ∷ []) (
         rule-place 65535 (isComposite p) (Composite (leastDivisor p)) (divisor-small e),
         (rule-place 65535 (notPrecise p n) Precision (omega arith), tt),
       ))

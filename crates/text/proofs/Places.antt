@@ -30,11 +30,10 @@ line-place b text place h = rule-place b (not (eqb (getD text place 0) 10)) (For
 lines-places : (b : ℕ) (text : List ℕ) (at c : ℕ) → at + 21 * c ≤ b → PlacesAtMost b (coefficientRules text at c)
 unfolding coefficientRules
 lines-places b text at zero h = tt
-lines-places b text at (suc c) h =
-    (
-      value-place b (signedValue text at 20) at (omega arith),
-      (line-place b text (at + 20) (omega arith), lines-places b text (at + 21) c (omega arith)),
-    )
+lines-places b text at (suc c) h = (
+  value-place b (signedValue text at 20) at (omega arith),
+  (line-place b text (at + 20) (omega arith), lines-places b text (at + 21) c (omega arith)),
+)
 
 module _ (text : List ℕ) where
   abbrev c : ℕ

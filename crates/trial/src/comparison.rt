@@ -7,11 +7,14 @@ use crate::listed;
 use crate::mapped;
 use crate::marks;
 use crate::modular::Modulus;
+use crate::modular::multiply_add;
 use crate::modular::power;
 use crate::plain;
 use crate::plain::Roots;
+use crate::signed::difference;
+use crate::signed::is_least;
 use crate::table::byte;
-use crate::table::entry;
+use crate::table::residue;
 use crate::tally;
 use crate::tally::Tally;
 
@@ -23,7 +26,7 @@ fn is_point(roots: Roots, m: u32, r: u32) -> bool {
 // Every residue from the last down: the test, the classes that it is a member of, and next.
 fn residues(
     f: Polynomial,
-    residues: [u32; 65],
+    residues: [i32; 65],
     levels: [u8; 65],
     k: usize,
     x: Modulus,
@@ -53,30 +56,33 @@ fn residues(
     tally
 }
 
-// The classes and their marks one after the other, and their number; h has the coefficients divided by p^s.
+// The classes and their marks one after the other, and their number; h has the coefficients divided by p^s. The list rises by residue, so
+// the numbers from −m to m − 1 are tried in turn, each as a − m, where a is congruent to it modulo m.
 fn classes(
     h: [u32; 65],
     c: usize,
     x: Modulus,
     roots: Roots,
-    residues: [u32; 65],
+    residues: [i32; 65],
     levels: [u8; 65],
     marks: [u8; 65],
     k: usize,
     mut tally: Tally,
 ) -> Tally {
+    let end = x.m % 513 * 2;
     let mut i: usize = 0;
-    let mut r: u32 = 0;
-    while r < x.m {
-        let t = listed::level(roots, x, r);
-        if t <= x.n {
-            let same = (entry(residues, i) == r) & (byte(levels, i) == t);
-            let mark = marks::mark(h, c, r, power(x.p, t), x);
+    let mut a: u32 = 0;
+    while a < end {
+        let t = listed::level(roots, x, a);
+        let q = power(x.p, t);
+        if (t <= x.n) & is_least(a, x.m, q) {
+            let same = (residue(residues, i) == difference(a, x.m)) & (byte(levels, i) == t);
+            let mark = marks::mark(h, c, multiply_add(a, 1, 0, q), q, x);
             tally = tally.compare(tally::ENTRY, same);
             tally = tally.compare(tally::MARK, byte(marks, i) == mark);
             i = i % 512 + 1;
         }
-        r += 1;
+        a += 1;
     }
     tally.compare(tally::CLASSES, i == k)
 }

@@ -12,14 +12,14 @@ pub(crate) struct Solution {
     // the number of classes, and 65 for a refusal
     pub(crate) k: usize,
     pub(crate) roots: u64,
-    pub(crate) residues: [u32; 65],
+    pub(crate) residues: [i32; 65],
     pub(crate) levels: [u8; 65],
     pub(crate) marks: [u8; 65],
 }
 
 // The solver's answer for the first c coefficients; every slot holds 77 before the call.
 pub(crate) fn solve(f: [i64; 65], c: usize, x: Modulus) -> Solution {
-    let mut residues = [77u32; 65];
+    let mut residues = [77i32; 65];
     let mut levels = [77u8; 65];
     let mut marks = [77u8; 65];
     match solver::solve(
@@ -57,7 +57,7 @@ pub(crate) fn test(f: [i64; 65], c: usize, x: Modulus, r: u32) -> u8 {
 }
 
 // The next root from a point in the first k classes: m for none, 2^32 − 1 for a refusal.
-pub(crate) fn next(residues: [u32; 65], levels: [u8; 65], k: usize, x: Modulus, point: u32) -> u32 {
+pub(crate) fn next(residues: [i32; 65], levels: [u8; 65], k: usize, x: Modulus, point: u32) -> u32 {
     match classes::next_root(
         x.p,
         x.n,
@@ -79,7 +79,7 @@ pub(crate) struct Map {
 
 // The map of the first k classes, on bytes that are 255 before the call.
 pub(crate) fn fill(
-    residues: [u32; 65],
+    residues: [i32; 65],
     levels: [u8; 65],
     k: usize,
     x: Modulus,

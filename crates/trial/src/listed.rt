@@ -4,8 +4,9 @@ use crate::modular::multiply_add;
 use crate::modular::power;
 use crate::modular::quotient;
 use crate::plain::Roots;
+use crate::signed::difference;
 use crate::table::byte;
-use crate::table::entry;
+use crate::table::residue;
 use std::num::wrapping_add_u32;
 
 // Whether all of so many members of the class of r modulo q are roots.
@@ -22,37 +23,40 @@ fn is_whole(roots: Roots, r: u32, q: u32, members: u32) -> bool {
     true
 }
 
-// The level of the largest whole class of r, if r is its residue; n + 1 otherwise, and where r is no root.
+// The level of the largest whole class of r, and n + 1 where r is no root.
 pub(crate) fn level(roots: Roots, x: Modulus, r: u32) -> u32 {
     let none = x.n % 64 + 1;
     let mut t: u32 = 0;
     while t < none {
         let q = power(x.p, t);
         if is_whole(roots, r, q, quotient(x.m, q)) {
-            return if r < q { t } else { none };
+            return t;
         }
         t += 1;
     }
     none
 }
 
-// How many of the first k classes have r as a member.
-pub(crate) fn memberships(residues: [u32; 65], levels: [u8; 65], k: usize, p: u32, r: u32) -> u32 {
+// How many of the first k classes have r as a member: a class of level t has it if its residue is r modulo p^t, or that less p^t.
+pub(crate) fn memberships(residues: [i32; 65], levels: [u8; 65], k: usize, p: u32, r: u32) -> u32 {
     let mut count: u32 = 0;
     let mut i: usize = 0;
     while i < k {
-        let a = multiply_add(r, 1, 0, power(p, byte(levels, i)));
-        count = wrapping_add_u32(count, (a == entry(residues, i)) as u32);
+        let q = power(p, byte(levels, i));
+        let a = multiply_add(r, 1, 0, q);
+        let z = residue(residues, i);
+        let member = (z == difference(a, 0)) | (z == difference(a, q));
+        count = wrapping_add_u32(count, member as u32);
         i += 1;
     }
     count
 }
 
 // Whether the slots from k on hold what they held before the call.
-pub(crate) fn unused(residues: [u32; 65], levels: [u8; 65], marks: [u8; 65], k: usize) -> bool {
+pub(crate) fn unused(residues: [i32; 65], levels: [u8; 65], marks: [u8; 65], k: usize) -> bool {
     let mut i = k;
     while i < 65 {
-        if (entry(residues, i) != 77) | (byte(levels, i) != 77) | (byte(marks, i) != 77) {
+        if (residue(residues, i) != 77) | (byte(levels, i) != 77) | (byte(marks, i) != 77) {
             return false;
         }
         i += 1;

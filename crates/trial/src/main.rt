@@ -17,6 +17,7 @@ mod plain;
 mod prefix;
 mod products;
 mod random;
+mod signed;
 mod small;
 mod table;
 mod tally;

@@ -30,7 +30,7 @@ fn bits(map: [u8; 64], end: u32, roots: Roots, mut tally: Tally) -> Tally {
 
 // The map of the first k classes, and its count without and with spare bits set.
 pub(crate) fn compare(
-    residues: [u32; 65],
+    residues: [i32; 65],
     levels: [u8; 65],
     k: usize,
     x: Modulus,

@@ -4,7 +4,7 @@ pub(crate) fn coefficients(list: &[i64], k: usize) -> &[i64] {
     if k < list.len() { &list[0..k] } else { list }
 }
 
-pub(crate) fn words(list: &[u32], k: usize) -> &[u32] {
+pub(crate) fn words(list: &[i32], k: usize) -> &[i32] {
     if k < list.len() { &list[0..k] } else { list }
 }
 
