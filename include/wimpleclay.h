@@ -86,12 +86,12 @@ typedef struct {
 } wimpleclay_solve_answer;
 
 /* The root classes of the polynomial modulo p^n. The lent lists must have the same length. The k classes go into the
-   first k slots, rising by the signed residue: its residue, its level, and its mark. The mark tells of g, which is the
-   polynomial divided by the largest power of p that is common to its coefficients modulo p^n: it is 1 if p divides the
-   derivative of g at none of the class's members, 0 if at all, 2 if at some, and 0 if all coefficients are 0 modulo
-   p^n. Only a class of level 0, which is everything, can have mark 2. Later slots keep their content. The list is the
-   shortest that there is, the only one of its length, and no residue is a member of two of its classes. Rules 2, 3, 4,
-   14, 5, 6 and 11 (place: k, so a call with lists of length 0 asks for k). */
+   first k slots, rising by the signed residue: of each its residue, its level and its mark. The mark tells of g, which
+   is the polynomial divided by the largest power of p that is common to its coefficients modulo p^n: it is 1 if p
+   divides the derivative of g at none of the class's members, 0 if at all, 2 if at some, and 0 if all coefficients are
+   0 modulo p^n. Only a class of level 0, which is everything, can have mark 2. Later slots keep their content. The
+   list is the shortest that there is, the only one of its length, and no residue is a member of two of its classes.
+   Rules 2, 3, 4, 14, 5, 6 and 11 (place: k, so a call with lists of length 0 asks for k). */
 wimpleclay_solve_answer wimpleclay_solve(const int64_t *coefficients, size_t coefficients_length, uint32_t p,
                                          uint32_t n, int32_t *residues, size_t residues_length, uint8_t *levels,
                                          size_t levels_length, uint8_t *marks, size_t marks_length);

@@ -37,7 +37,8 @@ static void test_next(uint32_t p, uint32_t n)
 static void test_map(uint32_t p, uint32_t n)
 {
     uint32_t m = (uint32_t)power(p, n);
-    size_t bytes = WIMPLECLAY_MAP_BYTES(m) + (draw(8) == 0) - (draw(8) == 0);
+    size_t bytes = WIMPLECLAY_MAP_BYTES(m) + (draw(8) == 0);
+    bytes -= draw(8) == 0;
     loan map = lend(NULL, bytes);
     wimpleclay_map_answer a =
         wimpleclay_fill_map(p, n, lent(&residues), lengths[0], lent(&levels), lengths[1], lent(&map), bytes);

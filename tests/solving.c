@@ -70,6 +70,7 @@ static void test_polynomial(const int64_t *coefficients, size_t count, uint32_t 
 /* A coefficient: small, any, an extreme one, or a multiple of a power of p. */
 static int64_t draw_coefficient(uint32_t p, uint32_t n)
 {
+    uint64_t factor = draw(50);
     switch (draw(5)) {
     case 0:
         return (int64_t)draw(9) - 4;
@@ -80,7 +81,7 @@ static int64_t draw_coefficient(uint32_t p, uint32_t n)
     case 3:
         return 0;
     default:
-        return (int64_t)(power(p, (uint32_t)draw(n + 1)) * draw(50));
+        return (int64_t)(power(p, (uint32_t)draw(n + 1)) * factor);
     }
 }
 

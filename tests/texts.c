@@ -28,7 +28,9 @@ static void test_writer(uint32_t p, uint32_t n)
 {
     char expected[WIMPLECLAY_TEXT_BYTES(MOST_ENTRIES) + 1];
     draw_list(p, n, &l, 1);
-    size_t needed = WIMPLECLAY_TEXT_BYTES(l.k), room = needed + draw(50) - (draw(5) == 0) * (1 + draw(45));
+    size_t needed = WIMPLECLAY_TEXT_BYTES(l.k), room = needed + draw(50);
+    if (draw(5) == 0)
+        room -= 1 + draw(45);
     size_t third = l.k + (draw(20) == 0);
     loan residues = lend(l.residues, l.k * sizeof *l.residues), levels = lend(l.levels, l.k),
          marks = lend(l.marks, third);
