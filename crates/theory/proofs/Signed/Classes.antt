@@ -1,17 +1,18 @@
 -- Classes with residues of least size and 01's classes are the same classes: `signed` and `natural` undo each other.
 use mathlib.Core.Path.{_≡_, refl, sym, ap, ap₂, _∙_}
+use mathlib.Core.Logic.{_↔_}
 use mathlib.Core.List.{List, map}
 use Prim.Native.Nat.{ℕ, _%_, _^_, _≤_, _<_, min}
 use native.Mathlib.Nat.{min-le-left, min-le-right}
 use lib.Dec.{eqb}
-use lib.IntN.{ℤ}
+use lib.IntN.{ℤ, pos, _-ℤ_}
 use Rattle.theory.specs.Lists.{In}
-use Rattle.theory.specs.Polynomial.{reduce}
-use Rattle.theory.specs.Class.{Class, IsClass, share}
+use Rattle.theory.specs.Polynomial.{reduce, Multiple}
+use Rattle.theory.specs.Class.{Class, IsClass, Member, share}
 use Rattle.theory.specs.SignedClass.{SignedClass, signedClass, IsSignedClass, signed, natural, naturals, levelsOf}
 use Rattle.theory.proofs.Lists.Map.{map-map, map-kept}
 use Rattle.theory.proofs.Numbers.Power.{pow-pos, pow-dvd}
-use Rattle.theory.proofs.Numbers.Reduction.{reduce-lt, reduce-down}
+use Rattle.theory.proofs.Numbers.Reduction.{reduce-lt, reduce-down, congruent-multiple, multiple-congruent}
 use Rattle.theory.proofs.Classes.Equal.{class-equal}
 use Rattle.theory.proofs.Signed.Centered.{reduce-centered, centered-range, centered-reduce}
 
@@ -43,7 +44,17 @@ module _ (p n : ℕ) (hp : 0 < p) where
   unfolding signed natural
   natural-signed c k = class-equal (reduce-centered (p ^ (c .level)) (c .residue) (k .residue-fits)) refl
 
-  -- the same for lists
+  -- "Its members are the residues r below pⁿ with r ≡ a mod p^t", for the signed a
+  pub signed-member : (c : SignedClass) (r : ℕ)
+      → Member p n (natural p c) r ↔ ((r < p ^ n) × Multiple (p ^ (c .level)) (pos r -ℤ c .residue))
+  unfolding natural
+  signed-member c r =
+      let q = p ^ (c .level) in (
+        (λ k. (k .below, congruent-multiple q (hq (c .level)) r (c .residue) (k .congruent))),
+        (λ k. record { below = k .0; congruent = multiple-congruent q (hq (c .level)) r (c .residue) (k .1) }),
+      )
+
+  -- the maps for lists
   pub all-signed-natural : (R : List SignedClass) → ((c : SignedClass) → In c R → IsSignedClass p n c) → map (signed p) (naturals p R) ≡ R
   all-signed-natural R ok =
       map-map (signed p) (natural p) R ∙ map-kept (λ c. signed p (natural p c)) R (λ c u. signed-natural c (ok c u))
