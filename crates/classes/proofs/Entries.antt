@@ -5,7 +5,6 @@ use Prim.Native.Nat.{ℕ, zero, suc, _<_, min}
 use native.Mathlib.Omega.{arith}
 use lib.IntN.{ℤ, pos}
 use lib.ListN.{length, length-map, getD}
-use Rattle.theory.specs.Class.{Class, class}
 use Rattle.theory.specs.ClassList.{slot}
 use Rattle.theory.specs.SignedClass.{SignedClass, signedClass, natural, naturals, signedSlot, residuesOf, levelsOf}
 use Rattle.classes.specs.Rule7.{classesOf}

@@ -1,7 +1,7 @@
 -- What a list has that rule 7 passes.
 use mathlib.Core.Path.{_≡_, refl, sym, ap, _∙_}
-use mathlib.Core.Bool.{Bool, true, false, not, _||_}
-use mathlib.Core.List.{List, map}
+use mathlib.Core.Bool.{true, false}
+use mathlib.Core.List.{List}
 use Prim.Native.Nat.{ℕ, _%_, _^_, _≤_, _<_, min}
 use native.Mathlib.Decide.{decLt}
 use native.Mathlib.Omega.{arith}
@@ -19,7 +19,6 @@ use Rattle.theory.proofs.Classes.Share.{common-share}
 use Rattle.theory.proofs.Classes.Sum.{disjoint-most, total-least}
 use Rattle.theory.proofs.Signed.Classes.{natural-class, natural-levels}
 use Rattle.theory.proofs.Range.{none-found}
-use Rattle.theory.proofs.Least.{least-is}
 use Rattle.classes.specs.Rule7.{classesOf, sharedEarlier, faultAt}
 use Rattle.classes.specs.inner.Search.{unusableAt, usableTo}
 use Rattle.classes.specs.inner.Usable.{Faultless}
@@ -66,7 +65,8 @@ module _ (p n : ℕ) (L : List SignedClass) (hp : 0 < p) (F : Faultless p n L) w
   share-at i j h l = rw (natural-slot p L i (omega arith), natural-slot p L j l) (F .apart i j h l)
 
   distinct : (i j : ℕ) → i < j → j < length N → slot N i ≡ slot N j → ⊥
-  distinct i j h l e = contradiction (ap (λ (c : Class). share p c (slot N j)) e ∙ share-self p (slot N j)) (share-at i j h (omega (arith, long)))
+  distinct i j h l e =
+      contradiction (ap (λ (c : Class). share p c (slot N j)) e ∙ share-self p (slot N j)) (share-at i j h (omega (arith, long)))
 
   clash : (i j : ℕ) → i < j → j < length N → (r : ℕ) → Member p n (slot N i) r → Member p n (slot N j) r → ⊥
   clash i j h l r u v =

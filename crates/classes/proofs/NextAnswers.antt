@@ -87,7 +87,8 @@ module _ (p n : ℕ) (residues : List ℤ) (levels : List ℕ) (point : ℕ) whe
       first-of [] = refl
       first-of (r ∷ rs) = refl
 
-      go : Dec (point < p ^ n) → answerOf (nextOf p n residues levels point) ≡ nextIn (members p (naturals p (classesOf residues levels))) p n point
+      go : Dec (point < p ^ n)
+          → answerOf (nextOf p n residues levels point) ≡ nextIn (members p (naturals p (classesOf residues levels))) p n point
       go (yes h) =
           rw (verdict-passes m C h, lt-ltb point (p ^ n) h, nextIn)
           (first-of (from (members p (naturals p (classesOf residues levels))) p n point))

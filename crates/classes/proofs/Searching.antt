@@ -1,8 +1,8 @@
--- The search finds the first fault: within the first m entries, which have no fault of their own, every overlap is a fault at the later of two
--- entries, and the first entry that shares a member with an earlier one is among them.
-use mathlib.Core.Path.{_≡_, refl, sym, ap, _∙_}
+-- The search finds the first fault: within the first m entries, which have no fault of their own, every overlap is a fault at the later of
+-- two entries, and the first entry that shares a member with an earlier one is among them.
+use mathlib.Core.Path.{_≡_, refl, ap}
 use mathlib.Core.Logic.{_⊎_, inl, inr}
-use mathlib.Core.Bool.{Bool, true, false, not, _||_}
+use mathlib.Core.Bool.{Bool, true, not}
 use mathlib.Core.List.{List}
 use Prim.Native.Nat.{ℕ, zero, suc, _≤_, _<_, min, max}
 use native.Mathlib.Nat.{eq-or-lt-of-le}
@@ -127,7 +127,8 @@ module _ (p n : ℕ) (L : List SignedClass) where
             pick : Dec (j < i) → Dec (i < j) → first ≤ max i j
             pick (yes l) w = omega (arith, later-shares i j l (omega (arith, usable-fits p n L)) shares)
             pick (no l) (yes k) =
-                omega (arith, later-shares j i k (omega (arith, usable-fits p n L)) (share-sym p hp (signedSlot L j) (signedSlot L i) shares))
+                let back = share-sym p hp (signedSlot L j) (signedSlot L i) shares in
+                omega (arith, later-shares j i k (omega (arith, usable-fits p n L)) back)
             pick (no l) (no k) =
                 let q : j ≡ i = omega arith in
                 absurd (omega (arith, ap (λ (x : ℕ). signedSlot L x .level) q, level))
@@ -182,7 +183,8 @@ module _ (p n : ℕ) (L : List SignedClass) where
         (least-found (sharedEarlier p L) (length L) 0 (omega (arith, usable-fits p n L))))
       where
         go : (j : ℕ) × (j < first) × Shares j first → searchedTo p L m m ≤ first
-        go (j, l, e) = pick (decLt (signedSlot L j .level) (signedSlot L first .level)) (decLt (signedSlot L first .level) (signedSlot L j .level))
+        go (j, l, e) =
+            pick (decLt (signedSlot L j .level) (signedSlot L first .level)) (decLt (signedSlot L first .level) (signedSlot L j .level))
           where
             hj : j < m
             hj = omega arith

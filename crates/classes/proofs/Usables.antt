@@ -1,9 +1,9 @@
 -- The entries that have no fault of their own: they are classes, and their residues rise.
-use mathlib.Core.Path.{_≡_, refl, sym, ap, _∙_}
+use mathlib.Core.Path.{_≡_, refl, _∙_}
 use mathlib.Core.Logic.{_⊎_, inl, inr}
-use mathlib.Core.Bool.{Bool, true, false, not, _||_}
+use mathlib.Core.Bool.{Bool, true, false, _||_}
 use mathlib.Core.List.{List}
-use Prim.Native.Nat.{ℕ, zero, suc, _+_, _-_, _^_, _≤_, _<_}
+use Prim.Native.Nat.{ℕ, zero, suc, _-_, _^_, _≤_, _<_}
 use native.Mathlib.Nat.{eq-or-lt-of-le}
 use native.Mathlib.Omega.{arith}
 use borrow.Author.Tests.{ltb-false, lt-ltb, le-ltb, not-false}
@@ -15,7 +15,7 @@ use Rattle.theory.specs.SignedClass.{SignedClass, signedClass, IsSignedClass, s
 use Rattle.theory.proofs.Tests.{or-left, or-right, or-fails-left, or-fails-right}
 use Rattle.theory.proofs.Range.{before-least, least-range}
 use Rattle.theory.proofs.Least.{least-is}
-use Rattle.theory.proofs.Numbers.Integers.{up, down, less-is, is-less, not-at-most-is}
+use Rattle.theory.proofs.Numbers.Integers.{less-is, is-less, not-at-most-is}
 use Rattle.classes.specs.Rule7.{classesOf, levelAbove, residueOutside, notAbove}
 use Rattle.classes.specs.inner.Search.{unusableAt, usableTo, RisingTo}
 use Rattle.classes.proofs.Entries.{classes-slot, classes-same-length}
@@ -61,7 +61,8 @@ rising-steps f m step j (suc k) h l = go (rising-steps f m step j k) (eq-or-lt-o
     go : (j < k → k < m → ltZ (f j) (f k) ≡ true) → (suc j ≡ suc k) ⊎ (suc j < suc k) → ltZ (f j) (f (suc k)) ≡ true
     go ih (inl q) = let s : j ≡ k = omega arith in rw s (step k l)
     go ih (inr q) =
-        is-less (f j) (f (suc k)) (omega (arith, less-is (f j) (f k) (ih (omega arith) (omega arith)), less-is (f k) (f (suc k)) (step k l)))
+        is-less (f j) (f (suc k))
+        (omega (arith, less-is (f j) (f k) (ih (omega arith) (omega arith)), less-is (f k) (f (suc k)) (step k l)))
 
 -- The first m of them
 

@@ -1,4 +1,4 @@
-// Total functions on machine integers that several crates need: the least divisor, powers and sums of powers, residues, the test of p and n.
+// Total functions on machine integers that several crates need: the least divisor, powers and their sums, residues, the test of p and n.
 ghost use mathlib.Core.Path.{_≡_};
 ghost use Prim.Native.Nat.{_-_, _^_, min};
 ghost use Rattle.theory.specs.Prime.{leastDivisor};

@@ -57,7 +57,8 @@ module _ (f : List ℤ) (p n m : ℕ) (U : Usable p n m) where
 
   pub solution-accepted : markedCheckedOf p n (residuesOf (solution f p n)) (levelsOf (solution f p n)) (marksOf f p n) ≡ Accepted m
   solution-accepted =
-      let high = no-high-mark (marksOf f p n) (marks-small (λ (c : SignedClass). mark f p n (natural p c)) (λ c. mark-most f p n (natural p c) (prime-pos (U .prime))) L) in
+      let small : (c : SignedClass) → mark f p n (natural p c) ≤ 2 = λ c. mark-most f p n (natural p c) (prime-pos (U .prime)) in
+      let high = no-high-mark (marksOf f p n) (marks-small (λ (c : SignedClass). mark f p n (natural p c)) small L) in
       marked-passes p n (residuesOf L) (levelsOf L) (marksOf f p n) U (residues-length ∙ sym levels-length)
       (residues-length ∙ sym marks-length) (length L) (length (marksOf f p n)) (min (length L) (length (marksOf f p n))) no-fault high refl
       (omega (arith, residues-length, marks-length))

@@ -101,8 +101,8 @@ module _ (f : List ℤ) (p n : ℕ) (some : 0 < length f) (few : length f ≤ 65
         ∙ ap (λ (t : List ℕ). filled (bufferVerdict t (length old)) t old) (sym text-is)
 
     -- the writer on these lists
-    module _ (residues : List ℤ) (levels marks : List ℕ) (er : residues ≡ residuesOf (solution f p n)) (el : levels ≡ levelsOf (solution f p n))
-        (em : marks ≡ marksOf f p n) where
+    module _ (residues : List ℤ) (levels marks : List ℕ) (er : residues ≡ residuesOf (solution f p n))
+        (el : levels ≡ levelsOf (solution f p n)) (em : marks ≡ marksOf f p n) where
       pub block-answer : (r : Written) (bytes : ℕ) → r ≡ writtenOf p n residues levels marks bytes → r ≡ writtenIn (solvedText f p n) bytes
       block-answer r bytes e =
           let w : r ≡ writtenOf p n (residuesOf (solution f p n)) (levelsOf (solution f p n)) (marksOf f p n) bytes =

@@ -24,8 +24,8 @@ added-more {a} {b} {k} {out = out} u v =
     }
 
 -- after the first k, which are kept, anew
-pub added-anew : {a b : List ℕ} {k k₁ k₂ : ℕ} {out out₁ out₂ : List ℕ} → Appended a k k₁ out out₁ → k ≤ length out → Appended b k k₂ out₁ out₂
-    → Appended b k k₂ out out₂
+pub added-anew : {a b : List ℕ} {k k₁ k₂ : ℕ} {out out₁ out₂ : List ℕ} → Appended a k k₁ out out₁ → k ≤ length out
+    → Appended b k k₂ out₁ out₂ → Appended b k k₂ out out₂
 added-anew {a} {b} {k} {k₁} {out = out} {out₁} u h v =
     let kept : take k out₁ ≡ take k out =
     sym (take-take k k₁ out₁ (omega (arith, u .number)))

@@ -104,7 +104,8 @@ mark-is w p n hp hn c = go (eq-zero-or-pos (c .level))
 
     go : (c .level ≡ 0) ⊎ (0 < c .level) → markFrom p d c ≡ markOf w p n (natural p c)
     go (inl z) =
-        sym (mark-top-from p d c z) ∙ sym (mark-top (vanishes p d) p n hp periodic (natural p c) z hn) ∙ sym (mark-over w p n hp (natural p c))
+        sym (mark-top-from p d c z) ∙ sym (mark-top (vanishes p d) p n hp periodic (natural p c) z hn)
+        ∙ sym (mark-over w p n hp (natural p c))
     go (inr h) =
         sym (mark-deep-from p d c (λ z. omega arith))
         ∙ ap (λ (b : Bool). markBy (not b) b) (sym (periodic _ _ (residue-digit p (c .level) hp h (c .residue))))

@@ -30,7 +30,8 @@ fn minus(a: u32, b: u32, p: u32) -> u32
 // The values at 0, 1, …, one for each entry.
 fn values(g: &[u32], p: u64, row: &mut [u32])
     requires { ⌜ (0 < p) × (p ≤ 65535) × (length (now row) ≤ 65) ⌝ }
-    ensures { λ _. ⌜ Overwritten (λ i. valueOf (now (g .entry)) i % p) 0 (length (now (row .entry))) (now (row .entry)) (now (row .exit)) ⌝ }
+    ensures { λ _. ⌜ Overwritten (λ i. valueOf (now (g .entry)) i % p) 0 (length (now (row .entry))) (now (row .entry))
+        (now (row .exit)) ⌝ }
 {
     let mut i: usize = 0;
     while i < row.len() {

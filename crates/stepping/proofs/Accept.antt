@@ -39,7 +39,9 @@ module _ (x : Input) {k roots-found : ℕ} (A : Accepted x k roots-found) where
   first-slots = rw (first-residues, first-levels) (classes-of-parts (solution (x .f) (x .p) (x .n)))
 
   pub residues-long : k ≤ length (listsLeft x .residues)
-  residues-long = found-long (x .f) (x .p) (x .n) (x .given) (A .answer) (λ (c : SignedClass). c .residue) (listsLeft x .residues) first-residues
+  residues-long =
+      found-long (x .f) (x .p) (x .n) (x .given) (A .answer) (λ (c : SignedClass). c .residue) (listsLeft x .residues) first-residues
 
   pub levels-long : k ≤ length (listsLeft x .levels)
-  levels-long = found-long (x .f) (x .p) (x .n) (x .given) (A .answer) (λ (c : SignedClass). c .level) (listsLeft x .levels) first-levels
+  levels-long =
+      found-long (x .f) (x .p) (x .n) (x .given) (A .answer) (λ (c : SignedClass). c .level) (listsLeft x .levels) first-levels

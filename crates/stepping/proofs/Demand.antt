@@ -85,7 +85,8 @@ module _ (x : Input) {k roots-found : ℕ} (A : Accepted x k roots-found) where
       }
 
   -- The function that makes the calls, on the lists as the solver left them
-  module _ (residues : List ℤ) (levels : List ℕ) (residues-are : residues ≡ listsLeft x .residues) (levels-are : levels ≡ listsLeft x .levels) where
+  module _ (residues : List ℤ) (levels : List ℕ) (residues-are : residues ≡ listsLeft x .residues)
+      (levels-are : levels ≡ listsLeft x .levels) where
     first-parts : (take k residues ≡ firstResidues x k) × (take k levels ≡ firstLevels x k)
     first-parts = (ap (take k) residues-are, ap (take k) levels-are)
 

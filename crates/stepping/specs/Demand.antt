@@ -26,7 +26,8 @@ pub record Demand (x : Input) (k : ℕ) : Type 0 where
   -- "Every rival has at least k entries"
   pub shortest : (R : List SignedClass) → SignedRival (roots (x .f) (x .p) (x .n)) (x .p) (x .n) R → k ≤ length R
   -- "and one with exactly k has the same pairs of residue and level as these slots, order aside"
-  pub alone : (R : List SignedClass) → SignedRival (roots (x .f) (x .p) (x .n)) (x .p) (x .n) R → length R ≡ k → Permutation R (firstSlots x k)
+  pub alone : (R : List SignedClass) → SignedRival (roots (x .f) (x .p) (x .n)) (x .p) (x .n) R → length R ≡ k
+      → Permutation R (firstSlots x k)
   -- "No residue is a member of the classes in two of these slots"
   pub disjoint : (i j : ℕ) → i < k → j < k → (r : ℕ) → Member (x .p) (x .n) (natural (x .p) (signedSlot (firstSlots x k) i)) r
       → Member (x .p) (x .n) (natural (x .p) (signedSlot (firstSlots x k) j)) r → i ≡ j

@@ -1,16 +1,14 @@
 -- Columns written from the right, byte by byte.
-use mathlib.Core.Path.{_≡_, refl, sym, ap, ap₂, _∙_}
-use mathlib.Core.Bool.{Bool, true, false}
+use mathlib.Core.Path.{_≡_, refl, sym, ap, _∙_}
 use mathlib.Core.List.{List, [], _∷_, _++_, append-assoc}
 use Prim.Native.Nat.{ℕ, zero, suc, _+_, _-_, _*_, _/_, _%_, _≤_, _<_}
 use native.Mathlib.Numerals.{add-one}
 use native.Mathlib.Decide.{decLe, ℕ-discrete}
 use native.Mathlib.Omega.{arith}
 use borrow.Author.Tests.{eq-eqb, ne-eqb}
-use lib.IntN.{ℤ, pos, negsuc}
 use lib.ListN.{length, drop, set, replicate, length-set, replicate-append-replicate}
 use lib.Seq.{drop-cons, getD-set-same, drop-set-lt}
-use Rattle.columns.specs.Column.{column, sign, minusColumn, signedColumn, blank, minus, digitByte}
+use Rattle.columns.specs.Column.{column, sign, minusColumn, blank, minus, digitByte}
 use Rattle.columns.proofs.Digits.{column-short, column-long, minus-short, minus-long}
 use Rattle.writer.specs.inner.Place.{leftOf, leftByte, numberOf}
 

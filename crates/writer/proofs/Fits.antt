@@ -1,5 +1,5 @@
 -- Every number of the writer's output fits its column.
-use mathlib.Core.Path.{_≡_, refl, ap, _∙_}
+use mathlib.Core.Path.{_≡_, ap}
 use mathlib.Core.Bool.{true}
 use mathlib.Core.List.{List, [], _∷_}
 use Prim.Native.Nat.{ℕ, _-_, _^_, _≤_, _<_}
@@ -16,7 +16,7 @@ use Rattle.theory.proofs.Numbers.Prime.{prime-pos}
 use Rattle.theory.proofs.Signed.Centered.{in-range}
 use Rattle.refusal.specs.declared.Refusal.{Refusal}
 use Rattle.refusal.specs.Number.{numberOf, placeOf}
-use Rattle.refusal.specs.Rules.{Verdict, passes, tried, rule12}
+use Rattle.refusal.specs.Rules.{Verdict, passes, rule12}
 use Rattle.refusal.proofs.Rules.{tried-both}
 use Rattle.refusal.proofs.Places.{number-at-most}
 use Rattle.numbers.specs.Modulus.{powerOr}

@@ -1,5 +1,5 @@
--- How the first fault of a list is searched for. An earlier entry may lie inside a later one (p = 3: −2/2 before 1/1), so the larger classes
--- around each entry are looked up among all entries that have no fault of their own.
+-- How the first fault of a list is searched for. An earlier entry may lie inside a later one (p = 3: −2/2 before 1/1), so the larger
+-- classes around each entry are looked up among all entries that have no fault of their own.
 use mathlib.Core.Path.{_≡_}
 use mathlib.Core.Bool.{Bool, true, false, _&&_, _||_}
 use mathlib.Core.List.{List}

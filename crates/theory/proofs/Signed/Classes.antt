@@ -1,5 +1,5 @@
 -- Classes with residues of least size and 01's classes are the same classes: `signed` and `natural` undo each other.
-use mathlib.Core.Path.{_≡_, refl, sym, ap, ap₂, _∙_}
+use mathlib.Core.Path.{_≡_, refl, ap₂, _∙_}
 use mathlib.Core.Logic.{_↔_}
 use mathlib.Core.List.{List, map}
 use Prim.Native.Nat.{ℕ, _%_, _^_, _≤_, _<_, min}

@@ -8,7 +8,7 @@ use native.Mathlib.Omega.{arith}
 use lib.IntN.{pos}
 use lib.ListN.{length, length-map}
 use Rattle.theory.specs.Lists.{In, Permutation}
-use Rattle.theory.specs.Class.{Class, class, IsClass}
+use Rattle.theory.specs.Class.{Class, class}
 use Rattle.theory.specs.ClassList.{memberTotal}
 use Rattle.theory.specs.Shortest.{shortest, count, Maximal}
 use Rattle.theory.specs.Centered.{isCentered, centered}
@@ -25,8 +25,8 @@ use Rattle.theory.proofs.Classes.Entries.{maximal-listed, listed-maxima
 use Rattle.theory.proofs.Classes.Sum.{shortest-total}
 use Rattle.theory.proofs.Classes.Tree.{tree-perm}
 use Rattle.theory.proofs.Signed.Centered.{range-wider, centered-low}
-use Rattle.theory.proofs.Signed.Classes.{natural-levels, natural-class, signed-class, natural-signed, signed-natural}
-use Rattle.theory.proofs.Signed.List.{SignedEarlier, signed-earlier-strict, signed-rising, signedShortest, list-shortest}
+use Rattle.theory.proofs.Signed.Classes.{natural-levels, signed-class, natural-signed, signed-natural}
+use Rattle.theory.proofs.Signed.List.{SignedEarlier, signed-earlier-strict, signed-rising, list-shortest}
 use Rattle.theory.proofs.Signed.List.{shortest-list, natural-shortest, signed-permutation}
 
 module _ (S : ℕ → Bool) (p n : ℕ) (hp : 0 < p) where

@@ -9,7 +9,7 @@ use lib.Signed.{ltZ}
 use Rattle.theory.specs.Lists.{In, Permutation}
 use Rattle.theory.specs.Range.{passing}
 use Rattle.theory.specs.Polynomial.{reduce}
-use Rattle.theory.specs.Class.{Class, IsClass, Member}
+use Rattle.theory.specs.Class.{Member}
 use Rattle.theory.specs.Shortest.{levelOf, shortest}
 use Rattle.theory.specs.Centered.{isCentered, centered}
 use Rattle.theory.specs.SignedClass.{SignedClass, signedClass, signed, natural, naturals}
@@ -128,7 +128,8 @@ module _ (S : ℕ → Bool) (p n : ℕ) (hp : 0 < p) where
       record {
         below = reduce-lt (p ^ n) (hq n) z;
         congruent =
-            reduce-down (p ^ t) (p ^ n) (hq t) (hq n) (pow-dvd p (k .level-fits)) z ∙ reduce-centered (p ^ t) (d .residue) (k .residue-fits);
+            reduce-down (p ^ t) (p ^ n) (hq t) (hq n) (pow-dvd p (k .level-fits)) z
+            ∙ reduce-centered (p ^ t) (d .residue) (k .residue-fits);
       } in
       in-cast e (listed-signed S p n (signedClass z t) (record {
         in-set = shortest-sound S p n hp d v r member;
@@ -143,4 +144,5 @@ module _ (S : ℕ → Bool) (p n : ℕ) (hp : 0 < p) where
   pub signed-permutation : Permutation (signedList S p n) signedShortest
   signed-permutation =
       perm-of-entries signedShortest (signedList S p n)
-      (no-repeat-unmap (natural p) signedShortest (rw natural-shortest (shortest-no-repeat S p n))) (signed-no-repeat S p n) shortest-list list-shortest
+      (no-repeat-unmap (natural p) signedShortest (rw natural-shortest (shortest-no-repeat S p n))) (signed-no-repeat S p n) shortest-list
+      list-shortest

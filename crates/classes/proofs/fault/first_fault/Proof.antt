@@ -1,7 +1,7 @@
 -- `classes::fault::first_fault` meets its contract. The invariant: `first` is what the first i entries show.
-use mathlib.Core.Path.{_≡_, refl, sym, ap, ap₂, _∙_}
+use mathlib.Core.Path.{_≡_, sym, ap, ap₂, _∙_}
 use mathlib.Core.List.{List}
-use Prim.Native.Nat.{ℕ, suc, _-_, _^_, _≤_, _<_}
+use Prim.Native.Nat.{ℕ, _-_, _≤_, _<_}
 use native.Mathlib.Numerals.{add-one}
 use native.Mathlib.Omega.{arith}
 use borrow.Author.Needs.{needs}
@@ -53,8 +53,8 @@ module _ (c : tie.After-first-unusable Inv-loop μ-loop) where
 
   level-fits : (i : ℕ) → i < m → getD (call .args .levels .now) i 0 ≤ call .args .n
   level-fits i h =
-      rw (entry i h) at
-      (usable-class (call .args .p) (call .args .n) L i (usable-before (call .args .p) (call .args .n) L i (omega (arith, m-is))) .level-fits)
+      let before = usable-before (call .args .p) (call .args .n) L i (omega (arith, m-is)) in
+      rw (entry i h) at (usable-class (call .args .p) (call .args .n) L i before .level-fits)
 
 least-overlap-requires : tie.Need-least-overlap-requires Inv-loop μ-loop
 least-overlap-requires c κs =

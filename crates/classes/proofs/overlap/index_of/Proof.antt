@@ -54,8 +54,8 @@ returns-4 c =
     let j = f .first-not-below .result in
     index-here (a .residues .now) (a .levels .now) (a .m) (b .pre .0) (b .pre .1) (b .pre .2) (a .a) (a .t) j
     (found-is f) (i .if1 .left)
-    (word-equal w32 (getD (a .residues .now) j (pos 0)) (a .a) (record { sfits = second .before .if22 .given }) (b .fits .a) (second .if2 .left))
-    (c .if3 .left)
+    (word-equal w32 (getD (a .residues .now) j (pos 0)) (a .a) (record { sfits = second .before .if22 .given }) (b .fits .a)
+    (second .if2 .left)) (c .if3 .left)
 
 pub index-of-spec : {M : Type 1} → statement M
 index-of-spec =

@@ -1,6 +1,6 @@
 -- `classes::overlap::least_overlap` meets its contract. The invariant: q is p^s, and `least` takes in the overlaps at the levels below s.
 use mathlib.Core.Path.{_≡_, refl, sym, ap, ap₂, _∙_}
-use Prim.Native.Nat.{ℕ, suc, _+_, _-_, _^_, _≤_, _<_, min}
+use Prim.Native.Nat.{ℕ, _+_, _-_, _^_, _≤_, _<_, min}
 use native.Mathlib.Numerals.{add-one}
 use native.Mathlib.Nat.{pow-zero, pow-le-pow-right}
 use native.Mathlib.Omega.{arith}
@@ -66,7 +66,8 @@ add-s : tie.Need-add-s Inv-loop μ-loop
 add-s c =
     let b = c .before .before .before in
     let k = b .before in
-    record { fits = omega (arith, c .before .before .loop-test .taken, b .loop .inv .0, k .shared-slice-known2 .given (k .before .before .args .i)) }
+    let byte = k .shared-slice-known2 .given (k .before .before .args .i) in
+    record { fits = omega (arith, c .before .before .loop-test .taken, b .loop .inv .0, byte) }
 
 loop-again : tie.Need-loop-again Inv-loop μ-loop
 loop-again c =

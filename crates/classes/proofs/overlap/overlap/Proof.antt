@@ -1,7 +1,7 @@
 -- `classes::overlap::overlap` meets its contract.
-use mathlib.Core.Path.{_≡_, refl, sym, ap, ap₂, _∙_}
+use mathlib.Core.Path.{_≡_, refl, ap, _∙_}
 use mathlib.Core.List.{List}
-use Prim.Native.Nat.{ℕ, _^_, _<_}
+use Prim.Native.Nat.{ℕ}
 use native.Mathlib.Omega.{arith}
 use borrow.Author.Needs.{needs}
 use lib.IntN.{ℤ, pos}
@@ -37,7 +37,8 @@ module _ (c : tie.After-index-of) where
 
   entry : signedSlot L (call .args .i) ≡ signedClass z (getD (call .args .levels .now) (call .args .i) 0)
   entry =
-      classes-slot (call .args .residues .now) (call .args .levels .now) (call .args .i) (omega (arith, call .pre)) (omega (arith, call .pre))
+      classes-slot (call .args .residues .now) (call .args .levels .now) (call .args .i) (omega (arith, call .pre))
+      (omega (arith, call .pre))
 
   -- the residue around entry i, and the class
   residue-is : c .before .residue-around .result ≡ centered q (reduce q z)
@@ -56,7 +57,9 @@ module _ (c : tie.After-index-of) where
   around-is =
       rw entry
       (signed-equal
-      (toZ-ofZ w32 (c .before .residue-around .result) residue-fits ∙ residue-is ∙ ap (λ (x : ℕ). centered x (reduce x z)) (call .pre .4)) refl)
+      (toZ-ofZ w32 (c .before .residue-around .result) residue-fits
+      ∙ residue-is
+      ∙ ap (λ (x : ℕ). centered x (reduce x z)) (call .pre .4)) refl)
 
   index-is : c .index-of .result
       ≡ indexOf L (call .args .m) (around (call .args .p) (signedSlot L (call .args .i)) (call .args .s))

@@ -1,15 +1,13 @@
 -- `classes::overlap::residue_around` meets its contract.
 use mathlib.Core.Path.{_≡_, ap, _∙_}
-use mathlib.Core.Bool.{true}
 use Prim.Native.Nat.{ℕ, _<_}
 use native.Mathlib.Omega.{arith}
 use borrow.Author.Needs.{needs}
-use lib.IntN.{ℤ}
 use mir.Syntax.{w32, w64}
 use mir.Val.{SFits, toZ, ofZ}
 use mir.ValLaws.{toZ-ofZ}
 use Rattle.theory.specs.Polynomial.{reduce}
-use Rattle.theory.specs.Centered.{isCentered, centered}
+use Rattle.theory.specs.Centered.{centered}
 use Rattle.theory.proofs.Numbers.Reduction.{reduce-lt}
 use Rattle.theory.proofs.Signed.Centered.{centered-range}
 use Rattle.numbers.proofs.Words.{wide-fits, wide-read, narrow-fits}
@@ -40,7 +38,9 @@ module _ (c : tie.After-centered) where
   result-is = c .centered .ensures ∙ ap (centered (q before)) (reduced-is before)
 
   narrow : SFits w32 (c .centered .result)
-  narrow = rw result-is (narrow-fits (q before) (centered (q before) (a before)) (call before .pre .1) (centered-range (q before) (a before) (below before)))
+  narrow =
+      rw result-is
+      (narrow-fits (q before) (centered (q before) (a before)) (call before .pre .1) (centered-range (q before) (a before) (below before)))
 
   read : toZ w64 (ofZ w64 (c .centered .result)) ≡ c .centered .result
   read = toZ-ofZ w64 (c .centered .result) (wide-fits (c .centered .result) narrow)

@@ -1,16 +1,15 @@
 -- `classes::usable::is_centered` meets its contract.
-use mathlib.Core.Path.{_≡_, refl, sym, ap, ap₂, _∙_}
-use mathlib.Core.Bool.{true, false, _&&_}
-use Prim.Native.Nat.{ℕ, _*_, _≤_}
+use mathlib.Core.Path.{_≡_, ap, _∙_}
+use Prim.Native.Nat.{ℕ, _*_}
 use native.Mathlib.Omega.{arith}
 use borrow.Author.Needs.{needs}
 use lib.IntN.{ℤ, pos, negℤ, _-ℤ_, _*ℤ_}
-use lib.Signed.{ltZ, leZ}
 use mir.Syntax.{w32, w64}
 use mir.Val.{SFits, toZ, ofZ}
 use mir.ValLaws.{toZ-pos, toZ-ofZ}
 use Rattle.theory.specs.Centered.{isCentered}
-use Rattle.theory.proofs.Numbers.Integers.{up, down, is-unique, sum-is, opposite-is, negative-is, product-is, at-most-is, not-at-most-is, is-less, is-not-less}
+use Rattle.theory.proofs.Numbers.Integers.{up, down, is-unique, sum-is, negative-is, product-is}
+use Rattle.theory.proofs.Numbers.Integers.{at-most-is, not-at-most-is, is-less, is-not-less}
 use Rattle.numbers.proofs.Words.{difference-fits, wide-fits, wide-read, narrow-parts}
 use Rattle.classes.proofs.usable.is_centered.Statement.{statement}
 use Rattle.classes.proofs.usable.is_centered.Tie as tie
@@ -77,5 +76,5 @@ returns-2 c =
 pub is-centered-spec : {M : Type 1} → statement M
 is-centered-spec =
     tie.close
-    (tie.spec (λ c. search needs) (λ c. rw (toZ-ofZ w32 (z c) (c .fits .z)) (wide-fits (z c) (c .fits .z))) doubled-fits negated-fits returns
-    returns-2)
+    (tie.spec (λ c. search needs) (λ c. rw (toZ-ofZ w32 (z c) (c .fits .z)) (wide-fits (z c) (c .fits .z))) doubled-fits negated-fits
+    returns returns-2)

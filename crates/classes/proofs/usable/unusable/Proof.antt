@@ -1,6 +1,5 @@
 -- `classes::usable::unusable` meets its contract.
-use mathlib.Core.Path.{_≡_, sym, ap, ap₂, _∙_}
-use mathlib.Core.Bool.{Bool}
+use mathlib.Core.Path.{_≡_, sym, ap₂, _∙_}
 use Prim.Native.Nat.{ℕ, _-_, _^_, _<_}
 use native.Mathlib.Nat.{pos-of-ne-zero}
 use native.Mathlib.Omega.{arith}
@@ -10,7 +9,6 @@ use lib.IntN.{ℤ, pos}
 use lib.ListN.{getD}
 use lib.Signed.{leZ}
 use mir.Syntax.{w32}
-use mir.Val.{toZ, ofZ}
 use mir.ValLaws.{toZ-ofZ}
 use Rattle.theory.specs.Centered.{isCentered}
 use Rattle.numbers.proofs.Saturated.{level-power, saturated-power}
@@ -63,8 +61,9 @@ returns-3 c =
     let s = c .before .before in
     let b = call (s .before) in
     let a = b .args in
-    sym (first-usable (a .p) (a .n) (a .residues .now) (a .levels .now) (a .i) (b .pre .0) (b .pre .1) (s .before .before .before .if1 .left)
-    (sym (centered-is s) ∙ not-false (s .is-centered .result) (c .before .if2 .left)) (c .if3 .taken))
+    sym (first-usable (a .p) (a .n) (a .residues .now) (a .levels .now) (a .i) (b .pre .0) (b .pre .1)
+    (s .before .before .before .if1 .left) (sym (centered-is s) ∙ not-false (s .is-centered .result) (c .before .if2 .left))
+    (c .if3 .taken))
 
 returns-4 : tie.Need-returns-4
 returns-4 c =

@@ -1,11 +1,11 @@
 -- `solver::lists::write_residues` meets its contract. The invariant: the first i residues are written, and the others are as they were.
-use mathlib.Core.Path.{_≡_, refl, sym, ap, _∙_}
+use mathlib.Core.Path.{_≡_, sym, ap, _∙_}
 use mathlib.Core.List.{List, _++_, map}
 use Prim.Native.Nat.{ℕ, _-_, _≤_}
 use native.Mathlib.Omega.{arith}
 use borrow.Author.Needs.{needs}
 use lib.IntN.{ℤ, pos}
-use lib.ListN.{length, getD, take, drop, set}
+use lib.ListN.{length, take, drop, set}
 use lib.Seq.{take-length}
 use mir.Syntax.{w32}
 use mir.Val.{toZ, ofZ}
@@ -46,6 +46,11 @@ long b =
     ap length (b .loop .inv .1)
     ∙ written-length residueAt (s .args .codes .now) (s .args .residues .now) (b .loop .i) (omega arith) (omega (arith, s .pre .0))
 
+slice-set-from-residues : tie.Need-slice-set-from-residues Inv-loop μ-loop
+slice-set-from-residues c =
+    let b = c .before .before in
+    omega (arith, long (b .before), b .loop-test .taken, b .before .before .before .pre .0)
+
 returns : tie.Need-returns Inv-loop μ-loop
 returns c =
     let b = c .before in
@@ -62,5 +67,4 @@ write-residues-spec =
     tie.close
     (tie.spec Inv-loop μ-loop (λ c. search needs) (λ c. search needs) (λ c. search needs)
     (λ c κs. c .before .before .before .before .pre .1 .fits (c .before .before .loop .i) (c .before .loop-test .taken)) (λ c. search needs)
-    (λ c. omega (arith, long (c .before .before .before), c .before .before .loop-test .taken, c .before .before .before .before .before .pre .0))
-    (λ c. search needs) (λ c. search needs) loop-again (λ c. long (c .before)) returns)
+    slice-set-from-residues (λ c. search needs) (λ c. search needs) loop-again (λ c. long (c .before)) returns)

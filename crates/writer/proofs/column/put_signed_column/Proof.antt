@@ -1,13 +1,12 @@
 -- `writer::column::put_signed_column` meets its contract.
-use mathlib.Core.Path.{_≡_, sym, ap, _∙_}
-use mathlib.Core.List.{List}
+use mathlib.Core.Path.{_≡_}
 use Prim.Native.Nat.{ℕ, suc, _+_, _-_}
 use native.Mathlib.Numerals.{add-one}
 use native.Mathlib.Omega.{arith}
 use borrow.Author.Needs.{needs}
-use lib.IntN.{ℤ, pos, negsuc, natAbs}
+use lib.IntN.{ℤ, pos, negsuc}
 use mir.Syntax.{w64}
-use mir.Val.{toZ, ofZ}
+use mir.Val.{ofZ}
 use Rattle.columns.specs.Column.{blank, minus, signedColumn}
 use Rattle.columns.proofs.Length.{signed-length}
 use Rattle.numbers.proofs.Words.{Read, negative, not-negative}
