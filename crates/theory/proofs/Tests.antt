@@ -45,12 +45,6 @@ same-test true b f g = sym (f refl)
 same-test false true f g = g refl
 same-test false false f g = refl
 
--- and so are two that fail together
-pub same-failure : (a b : Bool) → (a ≡ false → b ≡ false) → (b ≡ false → a ≡ false) → a ≡ b
-same-failure true true f g = refl
-same-failure true false f g = g refl
-same-failure false b f g = sym (f refl)
-
 -- a test that would lead to an absurdity fails
 pub not-holding : (b : Bool) → (b ≡ true → ⊥) → b ≡ false
 not-holding true h = absurd (h refl)
