@@ -37,6 +37,7 @@ unfoldable pub firstNotBelow : List ℤ → ℕ → ℤ → ℕ
 unfolding least
 firstNotBelow l m x = least (λ k. leZ x (getD l k (pos 0))) m 0
 
+-- the same integer
 abbrev pub eqZ : ℤ → ℤ → Bool
 eqZ (pos a) (pos b) = eqb a b
 eqZ (pos a) (negsuc b) = false
