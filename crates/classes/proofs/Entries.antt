@@ -5,8 +5,10 @@ use Prim.Native.Nat.{ℕ, zero, suc, _<_, min}
 use native.Mathlib.Omega.{arith}
 use lib.IntN.{ℤ, pos}
 use lib.ListN.{length, length-map, getD}
+use Rattle.theory.specs.Class.{class}
 use Rattle.theory.specs.ClassList.{slot}
 use Rattle.theory.specs.SignedClass.{SignedClass, signedClass, natural, naturals, signedSlot, residuesOf, levelsOf}
+use Rattle.theory.proofs.Lists.Map.{getD-map}
 use Rattle.classes.specs.Rule7.{classesOf}
 
 pub classes-length : (residues : List ℤ) (levels : List ℕ) → length (classesOf residues levels) ≡ min (length residues) (length levels)
@@ -44,9 +46,7 @@ classes-levels (a ∷ residues) (t ∷ levels) e = ap (λ (l : List ℕ). t ∷ 
 -- A list as 01's classes
 
 pub natural-slot : (p : ℕ) (L : List SignedClass) (i : ℕ) → i < length L → slot (naturals p L) i ≡ natural p (signedSlot L i)
-natural-slot p [] i h = absurd (omega arith)
-natural-slot p (c ∷ L) zero h = refl
-natural-slot p (c ∷ L) (suc i) h = natural-slot p L i (omega arith)
+natural-slot p L i h = getD-map (natural p) L i (signedClass (pos 0) 0) (class 0 0) h
 
 module _ (p : ℕ) (residues : List ℤ) (levels : List ℕ) (same : length residues ≡ length levels) where
   pub lent-length : length (naturals p (classesOf residues levels)) ≡ length residues

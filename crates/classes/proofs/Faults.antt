@@ -1,11 +1,10 @@
 -- What a list has that rule 7 passes.
-use mathlib.Core.Path.{_≡_, refl, sym, ap, _∙_}
-use mathlib.Core.Bool.{true, false}
+use mathlib.Core.Path.{_≡_, sym, ap, _∙_}
+use mathlib.Core.Bool.{false}
 use mathlib.Core.List.{List}
-use Prim.Native.Nat.{ℕ, _%_, _^_, _≤_, _<_, min}
+use Prim.Native.Nat.{ℕ, _^_, _≤_, _<_}
 use native.Mathlib.Decide.{decLt}
 use native.Mathlib.Omega.{arith}
-use borrow.Author.Tests.{eq-eqb}
 use lib.IntN.{ℤ, pos}
 use lib.ListN.{length, length-map, getD}
 use Rattle.theory.specs.Lists.{In}
@@ -15,7 +14,7 @@ use Rattle.theory.specs.SignedClass.{SignedClass, signedClass, IsSignedClass, n
 use Rattle.theory.proofs.Tests.{contradiction, or-fails-left, or-fails-right}
 use Rattle.theory.proofs.Lists.Index.{index-of, no-repeat-at}
 use Rattle.theory.proofs.Lists.Map.{in-map}
-use Rattle.theory.proofs.Classes.Share.{common-share}
+use Rattle.theory.proofs.Classes.Share.{common-share, share-self}
 use Rattle.theory.proofs.Classes.Sum.{disjoint-most, total-least}
 use Rattle.theory.proofs.Signed.Classes.{natural-class, natural-levels}
 use Rattle.theory.proofs.Range.{none-found}
@@ -42,10 +41,6 @@ faultless-list p n L none =
 
     all : usableTo p n L ≡ length L
     all = usable-is p n L (length L) (omega arith) usable (λ h. absurd (omega arith))
-
-share-self : (p : ℕ) (c : Class) → share p c c ≡ true
-unfolding share
-share-self p c = eq-eqb (c .residue % p ^ min (c .level) (c .level)) (c .residue % p ^ min (c .level) (c .level)) refl
 
 module _ (p n : ℕ) (L : List SignedClass) (hp : 0 < p) (F : Faultless p n L) where
   abbrev N : List Class

@@ -2,23 +2,23 @@
 -- two entries, and the first entry that shares a member with an earlier one is among them.
 use mathlib.Core.Path.{_≡_, refl, ap}
 use mathlib.Core.Logic.{_⊎_, inl, inr}
-use mathlib.Core.Bool.{Bool, true, not}
+use mathlib.Core.Bool.{true}
 use mathlib.Core.List.{List}
 use Prim.Native.Nat.{ℕ, zero, suc, _≤_, _<_, min, max}
 use native.Mathlib.Nat.{eq-or-lt-of-le}
 use native.Mathlib.Decide.{decLt}
 use native.Mathlib.Omega.{arith}
 use lib.ListN.{length}
-use Rattle.theory.specs.Range.{allBelow, least}
+use Rattle.theory.specs.Range.{least}
 use Rattle.theory.specs.Class.{share}
 use Rattle.theory.specs.SignedClass.{SignedClass, natural, signedSlot}
-use Rattle.theory.proofs.Tests.{contradiction}
-use Rattle.theory.proofs.Range.{some-passes, none-passes, least-passes, before-least, least-found}
+use Rattle.theory.proofs.Range.{some-passes, some-found, least-passes, least-found}
 use Rattle.theory.proofs.Least.{least-or}
 use Rattle.theory.proofs.Numbers.Integers.{up, down, less-is}
+use Rattle.theory.proofs.Classes.Share.{share-comm}
 use Rattle.classes.specs.Rule7.{sharedEarlier, faultAt, firstFault}
 use Rattle.classes.specs.inner.Search.{unusableAt, usableTo, sameClass, indexOf, around, overlap, leastValue, searchedTo}
-use Rattle.classes.proofs.Sharing.{same-equal, equal-same, shared-around, shared-equal, around-shares, share-sym}
+use Rattle.classes.proofs.Sharing.{same-equal, equal-same, shared-around, shared-equal, around-shares}
 use Rattle.classes.proofs.Usables.{usable-class, usable-fits, usable-before, usable-rises}
 
 -- The least value of a function
@@ -49,14 +49,6 @@ value-none f d = refl
 pub value-next : (f : ℕ → ℕ) (k d : ℕ) → min (f k) (leastValue f k d) ≡ leastValue f (suc k) d
 unfolding leastValue
 value-next f k d = refl
-
--- where some number passes, one is found
-some-found : (f : ℕ → Bool) (k : ℕ) → not (allBelow (λ j. not (f j)) k) ≡ true → (i : ℕ) × (i < k) × (f i ≡ true)
-some-found f k e = go (decLt (least f k 0) k)
-  where
-    go : Dec (least f k 0 < k) → (i : ℕ) × (i < k) × (f i ≡ true)
-    go (yes h) = (least f k 0, h, least-found f k 0 (omega arith))
-    go (no h) = absurd (contradiction e (none-passes f k (λ i l. before-least f k 0 i (omega arith) (omega arith))))
 
 level-of : (p : ℕ) (c d : SignedClass) (s : ℕ) → c ≡ around p d s → c .level ≡ s
 unfolding around
@@ -127,7 +119,7 @@ module _ (p n : ℕ) (L : List SignedClass) where
             pick : Dec (j < i) → Dec (i < j) → first ≤ max i j
             pick (yes l) w = omega (arith, later-shares i j l (omega (arith, usable-fits p n L)) shares)
             pick (no l) (yes k) =
-                let back = share-sym p hp (signedSlot L j) (signedSlot L i) shares in
+                let back = share-comm p (natural p (signedSlot L j)) (natural p (signedSlot L i)) shares in
                 omega (arith, later-shares j i k (omega (arith, usable-fits p n L)) back)
             pick (no l) (no k) =
                 let q : j ≡ i = omega arith in
@@ -193,7 +185,7 @@ module _ (p n : ℕ) (L : List SignedClass) where
                 → searchedTo p L m m ≤ first
             pick (yes a) b = inner-found first j first h hj (omega arith) (omega arith) a e
             pick (no a) (yes b) =
-                inner-found j first first hj h (omega arith) (omega arith) b (share-sym p hp (signedSlot L j) (signedSlot L first) e)
+                inner-found j first first hj h (omega arith) (omega arith) b (share-comm p (natural p (signedSlot L j)) (natural p (signedSlot L first)) e)
             pick (no a) (no b) =
                 let same : signedSlot L j .residue ≡ signedSlot L first .residue =
                 shared-equal p n hp (signedSlot L j) (signedSlot L first) (usable-class p n L j (usable-before p n L j hj))

@@ -2,7 +2,7 @@
 use mathlib.Core.Path.{_≡_, refl, sym, ap, _∙_}
 use mathlib.Core.Bool.{true}
 use Prim.Native.Nat.{ℕ, _^_, _≤_, _<_, min}
-use native.Mathlib.Nat.{min-comm, min-eq-left}
+use native.Mathlib.Nat.{min-eq-left}
 use native.Mathlib.Omega.{arith}
 use borrow.Author.Tests.{eqb-true, eq-eqb}
 use lib.Dec.{eqb}
@@ -80,10 +80,3 @@ module _ (p n : ℕ) (hp : 0 < p) (c d : SignedClass) where
       share-natural p hp c d
       ∙ eq-eqb (reduce (p ^ low) (c .residue)) (reduce (p ^ low) (d .residue))
       (rw q (ap (reduce (p ^ t)) a ∙ reduce-centered (p ^ t) r (reduce-lt (p ^ t) (pow-pos p hp t) (d .residue))))
-
-pub share-sym : (p : ℕ) → 0 < p → (c d : SignedClass) → share p (natural p c) (natural p d) ≡ true
-    → share p (natural p d) (natural p c) ≡ true
-share-sym p hp c d e =
-    let m = min (d .level) (c .level) in
-    share-natural p hp d c
-    ∙ eq-eqb (reduce (p ^ m) (d .residue)) (reduce (p ^ m) (c .residue)) (rw (min-comm (d .level) (c .level)) (sym (shared p 0 hp c d e)))

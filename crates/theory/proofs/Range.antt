@@ -67,6 +67,11 @@ some-fails f (suc k) e = go (some-fails f k) (f k) refl
 pub some-passes : (f : ℕ → Bool) (k i : ℕ) → i < k → f i ≡ true → not (allBelow (λ j. not (f j)) k) ≡ true
 some-passes f k i h e = rw (not-holding (allBelow (λ j. not (f j)) k) (λ a. contradiction (all-elim (λ j. not (f j)) k i a h) (rw e)))
 
+pub some-found : (f : ℕ → Bool) (k : ℕ) → not (allBelow (λ j. not (f j)) k) ≡ true → (i : ℕ) × (i < k) × (f i ≡ true)
+some-found f k e =
+    let (i, l, q) = some-fails (λ j. not (f j)) k (not-true (allBelow (λ j. not (f j)) k) e) in
+    (i, l, not-false (f i) q)
+
 pub none-passes : (f : ℕ → Bool) (k : ℕ) → ((i : ℕ) → i < k → f i ≡ false) → not (allBelow (λ j. not (f j)) k) ≡ false
 none-passes f k h = rw (all-intro (λ j. not (f j)) k (λ i l. rw (h i l)))
 

@@ -21,7 +21,7 @@ pub printed-block : outputText 2 4 (signedClass (negsuc 0) 3 ∷ signedClass (po
 unfolding outputText
 printed-block = refl
 
--- −2,147,483,647, below any residue of least size modulo a number of 32 bits, takes all eleven columns
+-- −2,147,483,647, the least residue of least size modulo a number of 32 bits, takes all eleven columns
 pub least-residue : signedColumn 11 (negsuc 2147483646) ≡ 45 ∷ 50 ∷ 49 ∷ 52 ∷ 55 ∷ 52 ∷ 56 ∷ 51 ∷ 54 ∷ 52 ∷ 55 ∷ []
 unfolding signedColumn
 least-residue = refl

@@ -1,5 +1,5 @@
 -- Two classes share a member exactly if their residues are congruent at the lower of their levels, and then one contains the other.
-use mathlib.Core.Path.{_≡_, sym, ap, _∙_}
+use mathlib.Core.Path.{_≡_, refl, sym, ap, _∙_}
 use mathlib.Core.Logic.{_⊎_, inl, inr}
 use mathlib.Core.Bool.{true}
 use Prim.Native.Nat.{ℕ, _%_, _^_, _≤_, _<_, min}
@@ -16,6 +16,17 @@ pub record Common (p n : ℕ) (c d : Class) : Type 0 where
   pub of-first : Member p n c residue
   pub of-second : Member p n d residue
 
+pub share-self : (p : ℕ) (c : Class) → share p c c ≡ true
+unfolding share
+share-self p c = eq-eqb (c .residue % p ^ min (c .level) (c .level)) (c .residue % p ^ min (c .level) (c .level)) refl
+
+pub share-comm : (p : ℕ) (c d : Class) → share p c d ≡ true → share p d c ≡ true
+unfolding share
+share-comm p c d e =
+    let q = eqb-true (c .residue % p ^ min (c .level) (d .level)) (d .residue % p ^ min (c .level) (d .level)) e in
+    eq-eqb (d .residue % p ^ min (d .level) (c .level)) (c .residue % p ^ min (d .level) (c .level))
+    (rw (min-comm (d .level) (c .level)) (sym q))
+
 module _ (p n : ℕ) (hp : 0 < p) where
   -- where the first has the lower level, its residue is the second's modulo its own power
   lower-first : (c d : Class) → IsClass p n c → c .level ≤ d .level → share p c d ≡ true → d .residue % p ^ (c .level) ≡ c .residue
@@ -24,13 +35,6 @@ module _ (p n : ℕ) (hp : 0 < p) where
       let m : min (c .level) (d .level) ≡ c .level = min-eq-left l in
       sym (rw m at (eqb-true (c .residue % p ^ min (c .level) (d .level)) (d .residue % p ^ min (c .level) (d .level)) e))
       ∙ mod-eq-of-lt (k .residue-fits)
-
-  share-comm : (c d : Class) → share p c d ≡ true → share p d c ≡ true
-  unfolding share
-  share-comm c d e =
-      let q = eqb-true (c .residue % p ^ min (c .level) (d .level)) (d .residue % p ^ min (c .level) (d .level)) e in
-      eq-eqb (d .residue % p ^ min (d .level) (c .level)) (c .residue % p ^ min (d .level) (c .level))
-      (rw (min-comm (d .level) (c .level)) (sym q))
 
   -- a class that shares a member with one of no lower level contains it
   contains-lower : (c d : Class) → IsClass p n c → c .level ≤ d .level → share p c d ≡ true → Contains p n c d
@@ -49,7 +53,7 @@ module _ (p n : ℕ) (hp : 0 < p) where
     where
       go : Dec (c .level ≤ d .level) → Contains p n c d ⊎ Contains p n d c
       go (yes l) = inl (contains-lower c d kc l e)
-      go (no l) = inr (contains-lower d c kd (le-of-lt (lt-of-not-le l)) (share-comm c d e))
+      go (no l) = inr (contains-lower d c kd (le-of-lt (lt-of-not-le l)) (share-comm p c d e))
 
   -- classes that share a member have a residue below pⁿ in common
   pub share-common : (c d : Class) → IsClass p n c → IsClass p n d → share p c d ≡ true → Common p n c d

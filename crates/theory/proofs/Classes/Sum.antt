@@ -49,7 +49,8 @@ class-size p n hp c k =
     (blocks (isMember p c) (p ^ (c .level)) (c .residue) (k .residue-fits) (member-congruent p c) (congruent-member p c)
     (p ^ (n - c .level)))
 
-abbrev levels : List Class → List ℕ
+-- the levels of a list of 01's classes
+abbrev pub levels : List Class → List ℕ
 levels = map (λ (c : Class). c .level)
 
 -- the classes of the list share no member

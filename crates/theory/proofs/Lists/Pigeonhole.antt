@@ -54,6 +54,10 @@ with-rest {A} (x ∷ l) m nr h =
     other y u (inl q) = absurd (nr .0 (in-cast (sym q) u))
     other y u (inr w) = w
 
+no-rest : {A : Type 0} {m : List A} (l r : List A) → Permutation m (l ++ r) → length r ≡ 0 → Permutation m l
+no-rest l [] d q = perm-trans d (perm-append-nil l)
+no-rest l (x ∷ r) d q = absurd (omega arith)
+
 -- l has no repeats, and each of its entries is the image of an entry of s
 module _ {A B : Type 0} (φ : B → A) (l : List A) (s : List B) (nr : NoRepeat l)
     (onto : (x : A) → In x l → (e : B) × In e s × (x ≡ φ e)) where
@@ -68,20 +72,12 @@ module _ {A B : Type 0} (φ : B → A) (l : List A) (s : List B) (nr : NoRepeat 
   pub pigeonhole-full : length l ≡ length s → Permutation (map φ s) l
   pigeonhole-full e =
       let (r, d) = with-rest l (map φ s) nr in-image in
-      go r d (omega (arith, perm-length d, length-append l r, length-map s φ))
-    where
-      go : (r : List A) → Permutation (map φ s) (l ++ r) → length r ≡ 0 → Permutation (map φ s) l
-      go [] d q = perm-trans d (perm-append-nil l)
-      go (x ∷ r) d q = absurd (omega arith)
+      no-rest l r d (omega (arith, perm-length d, length-append l r, length-map s φ))
 
 -- two lists without repeats that have the same entries
 pub perm-of-entries : {A : Type 0} (l m : List A) → NoRepeat l → NoRepeat m → ((x : A) → In x l → In x m) → ((x : A) → In x m → In x l)
     → Permutation m l
-perm-of-entries {A} l m nl nm f g =
+perm-of-entries l m nl nm f g =
     let (r, d) = with-rest l m nl f in
     let (s, e) = with-rest m l nm g in
-    go r d (omega (arith, perm-length d, perm-length e, length-append l r, length-append m s))
-  where
-    go : (r : List A) → Permutation m (l ++ r) → length r ≡ 0 → Permutation m l
-    go [] d q = perm-trans d (perm-append-nil l)
-    go (x ∷ r) d q = absurd (omega arith)
+    no-rest l r d (omega (arith, perm-length d, perm-length e, length-append l r, length-append m s))

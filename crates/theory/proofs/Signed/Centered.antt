@@ -111,7 +111,7 @@ centered-only q a z h e k =
     let same : reduce q z ≡ a = sym (multiple-congruent q (omega arith) a z k) ∙ mod-eq-of-lt h in
     sym (centered-reduce q z (omega arith) e) ∙ ap (centered q) same
 
--- "the range is −2,147,483,647 to 2,147,483,647": 32 bits hold it, and −2^31 does not occur
+-- for a q of 32 bits it is from −2,147,483,647 to 2,147,483,647: 32 bits hold it, and −2^31 does not occur
 pub centered-fits : (q : ℕ) (z : ℤ) → q ≤ 4294967295 → isCentered q z ≡ true
     → (leZ (negsuc 2147483646) z ≡ true) × (leZ z (pos 2147483647) ≡ true)
 unfolding up down

@@ -14,13 +14,14 @@ use Rattle.theory.proofs.Lists.Map.{map-map, map-kept}
 use Rattle.theory.proofs.Numbers.Power.{pow-pos, pow-dvd}
 use Rattle.theory.proofs.Numbers.Reduction.{reduce-lt, reduce-down, congruent-multiple, multiple-congruent}
 use Rattle.theory.proofs.Classes.Equal.{class-equal}
+use Rattle.theory.proofs.Classes.Sum.{levels}
 use Rattle.theory.proofs.Signed.Centered.{reduce-centered, centered-range, centered-reduce}
 
 pub signed-equal : {a b : ℤ} {t u : ℕ} → a ≡ b → t ≡ u → signedClass a t ≡ signedClass b u
 signed-equal e f = λ i. signedClass (e i) (f i)
 
 -- a class's level is the same in both ways of writing it
-pub natural-levels : (p : ℕ) (L : List SignedClass) → map (λ (c : Class). c .level) (naturals p L) ≡ levelsOf L
+pub natural-levels : (p : ℕ) (L : List SignedClass) → levels (naturals p L) ≡ levelsOf L
 unfolding natural
 natural-levels p L = map-map (λ (c : Class). c .level) (natural p) L
 

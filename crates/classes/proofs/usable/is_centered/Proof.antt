@@ -1,9 +1,11 @@
 -- `classes::usable::is_centered` meets its contract.
-use mathlib.Core.Path.{_≡_, ap, _∙_}
+use mathlib.Core.Path.{_≡_, sym, ap, ap₂, _∙_}
+use mathlib.Core.Bool.{true, false}
 use Prim.Native.Nat.{ℕ, _*_}
 use native.Mathlib.Omega.{arith}
 use borrow.Author.Needs.{needs}
 use lib.IntN.{ℤ, pos, negℤ, _-ℤ_, _*ℤ_}
+use lib.Signed.{leZ}
 use mir.Syntax.{w32, w64}
 use mir.Val.{SFits, toZ, ofZ}
 use mir.ValLaws.{toZ-pos, toZ-ofZ}
@@ -59,18 +61,22 @@ module _ (a : tie.Start) where
   read-negated : toZ w64 (ofZ w64 negated) ≡ low
   read-negated = toZ-ofZ w64 negated negated-fits ∙ negated-is
 
+  -- so the code's first test is that of 2z ≤ −q
+  tested : leZ (toZ w64 (ofZ w64 doubled)) (toZ w64 (ofZ w64 negated)) ≡ leZ twice low
+  tested = ap₂ leZ read-doubled read-negated
+
 returns : tie.Need-returns
 unfolding isCentered
 returns c =
     let a = c .before in
-    let h = rw (read-doubled a, read-negated a) at (c .if1 .taken) in
+    let h : leZ (twice a) (low a) ≡ true = sym (tested a) ∙ c .if1 .taken in
     rw (is-not-less (low a) (twice a) (at-most-is (twice a) (low a) h))
 
 returns-2 : tie.Need-returns-2
 unfolding isCentered
 returns-2 c =
     let a = c .before in
-    let h = rw (read-doubled a, read-negated a) at (c .if1 .left) in
+    let h : leZ (twice a) (low a) ≡ false = sym (tested a) ∙ c .if1 .left in
     rw (read-doubled a, toZ-pos w64 (q a) (omega (arith, a .pre)), is-less (low a) (twice a) (not-at-most-is (twice a) (low a) h))
 
 pub is-centered-spec : {M : Type 1} → statement M
