@@ -83,6 +83,7 @@ typedef struct {
     size_t place;
     size_t classes; /* k, the number of classes */
     uint64_t roots; /* the number of roots: the sum of the classes' members */
+    uint64_t live;  /* the number of live classes, see below */
 } wimpleclay_solve_answer;
 
 /* The root classes of the polynomial modulo p^n. The lent lists must have the same length. The k classes go into the
@@ -91,6 +92,14 @@ typedef struct {
    divides the derivative of g at none of the class's members, 0 if at all, 2 if at some, and 0 if all coefficients are
    0 modulo p^n. Only a class of level 0, which is everything, can have mark 2. Later slots keep their content. The
    list is the shortest that there is, the only one of its length, and no residue is a member of two of its classes.
+
+   live is the number of live classes. Everything, the class of level 0, is live. A live class a/t has the polynomial
+   f(a + p^t y) in y, where f is the polynomial given, with coefficients modulo p^n. If they are all 0, the class is
+   finished. Otherwise they are divided by the largest power of p that is common to them, and for each digit c from 0
+   to p - 1 at which p divides the value of the quotient, the class of a + p^t c at level t + 1 is live. The number is
+   1 if all coefficients are 0 modulo p^n, and never above 1 + n D, where D is the highest index at which p does not
+   divide the coefficient of g. For x^2 - 1 modulo 2^4 it is 6. Polynomials with the same roots may differ in it.
+
    Rules 2, 3, 4, 14, 5, 6 and 11 (place: k, so a call with lists of length 0 asks for k). */
 wimpleclay_solve_answer wimpleclay_solve(const int64_t *coefficients, size_t coefficients_length, uint32_t p,
                                          uint32_t n, int32_t *residues, size_t residues_length, uint8_t *levels,

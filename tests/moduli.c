@@ -33,6 +33,7 @@ static void test_pair(uint32_t p, uint32_t n)
     wimpleclay_write_answer written = wimpleclay_write_classes(p, n, lent(&residues), SLOTS, lent(&levels), SLOTS,
                                                                lent(&marks), SLOTS - 1, lent(&bytes), BYTES);
     judge(r, solved.number, solved.place, "solve: p and n");
+    expect(solved.classes == 0 && solved.roots == 0 && solved.live == 0, "solve: 0 in a refusal");
     judge(r, tested.number, tested.place, "is_root: p and n");
     judge(r, next.number, next.place, "next_root: p and n");
     judge(r, filled.number, filled.place, "fill_map: p and n");

@@ -104,6 +104,51 @@ void solve_by_trial(const int64_t *f, size_t count, uint32_t p, uint32_t n, list
         }
 }
 
+/* Adds to g the coefficients modulo m of f(a + q y) in y, those of f[i] (a + q y)^i for each i. */
+static void add_substituted(const int64_t *f, size_t count, uint64_t a, uint64_t q, uint64_t m, int64_t *g)
+{
+    uint64_t factor[COEFFICIENTS + 1] = {1};
+    for (size_t i = 0; i < count; i++) {
+        for (size_t j = 0; j <= i; j++)
+            g[j] = (int64_t)(((uint64_t)g[j] + residue_of(f[i], m) * factor[j]) % m);
+        for (size_t j = i + 1; j > 0; j--)
+            factor[j] = (factor[j] * a % m + factor[j - 1] * q) % m;
+        factor[0] = factor[0] * a % m;
+    }
+}
+
+/* The live class a/t and those inside it. */
+static uint64_t live_inside(const int64_t *f, size_t count, uint32_t p, uint32_t n, uint64_t a, uint32_t t)
+{
+    uint64_t m = power(p, n), q = power(p, t), live = 1;
+    int64_t g[COEFFICIENTS] = {0};
+    add_substituted(f, count, a, q, m, g);
+    uint64_t common = common_power(g, count, p, m);
+    if (common == m)
+        return live;
+    for (size_t j = 0; j < count; j++)
+        g[j] /= (int64_t)common;
+    for (uint64_t c = 0; c < p; c++)
+        if (value(g, count, c, p) == 0)
+            live += live_inside(f, count, p, n, a + q * c, t + 1);
+    return live;
+}
+
+uint64_t live_by_trial(const int64_t *f, size_t count, uint32_t p, uint32_t n)
+{
+    return live_inside(f, count, p, n, 0, 0);
+}
+
+size_t degree_bound(const int64_t *f, size_t count, uint32_t p, uint32_t n)
+{
+    uint64_t m = power(p, n), q = common_power(f, count, p, m);
+    size_t degree = 0;
+    for (size_t i = 0; i < count; i++)
+        if (residue_of(f[i], m) / q % p != 0)
+            degree = i;
+    return degree;
+}
+
 /* Whether entries i and j of the list have a common member. */
 static int share(uint32_t p, uint32_t n, const list *l, size_t i, size_t j)
 {

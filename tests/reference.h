@@ -5,8 +5,8 @@
 #include <stddef.h>
 #include <stdint.h>
 
-/* The largest modulus that trial goes through. */
-enum { MOST = 2401 };
+/* The largest modulus that trial goes through, and the most coefficients. */
+enum { MOST = 2401, COEFFICIENTS = 65 };
 
 typedef struct {
     uint32_t number;
@@ -45,6 +45,14 @@ refusal refused_modulus(uint32_t p, uint32_t n);
 
 /* The root classes of f: the whole classes that lie in no larger whole class, rising by the residue of least size. */
 void solve_by_trial(const int64_t *f, size_t count, uint32_t p, uint32_t n, list *s);
+
+/* The number of live classes of f. Everything is live. A live class a/t has the polynomial f(a + p^t y), coefficients modulo p^n; if they
+   are all zero it is finished. Otherwise divide by the largest power of p common to them, and for each digit c where the quotient is a
+   multiple of p, the class of a + p^t c at level t + 1 is live. */
+uint64_t live_by_trial(const int64_t *f, size_t count, uint32_t p, uint32_t n);
+
+/* D: the highest index at which p does not divide the coefficient of f / p^s, or 0 where all reduce to zero. */
+size_t degree_bound(const int64_t *f, size_t count, uint32_t p, uint32_t n);
 
 /* The first fault of entry i, where the entries before it are sound; its mark is looked at where marked is not 0. */
 fault fault_at(uint32_t p, uint32_t n, const list *l, size_t i, int marked);

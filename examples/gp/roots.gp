@@ -1,7 +1,8 @@
-\\ An example: classes and roots of some polynomials, and refusals.
+\\ An example: classes, roots and live classes of some polynomials, and refusals.
 read("wimpleclay.gp");
 print(wimpleclay(x^2 - 1, 2, 4));
 print(wimpleclayroots(x^2 - 1, 2, 4));
+print(wimpleclaylive(x^2 - 1, 2, 4));
 print(wimpleclayroots(x^2 + 3, 3, 2));
 print(wimpleclay(0, 5, 2));
 print(wimpleclay(3*x, 3, 2));

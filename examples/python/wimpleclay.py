@@ -9,6 +9,8 @@ to p^n - 1. x^2 - 1 modulo 2^4:
 [1, 7, 9, 15]
 >>> count([-1, 0, 1], 2, 4)
 4
+>>> live([-1, 0, 1], 2, 4)
+6
 >>> is_root([-1, 0, 1], 2, 4, 9)
 True
 
@@ -98,7 +100,11 @@ def _list(of):
 
 _problem = (*_list(c_int64), c_uint32, c_uint32)
 _residues, _levels, _marks = _list(c_int32), _list(c_uint8), _list(c_uint8)
-_solve = _function("solve", [("classes", c_size_t), ("roots", c_uint64)], (*_problem, *_residues, *_levels, *_marks))
+_solve = _function(
+    "solve",
+    [("classes", c_size_t), ("roots", c_uint64), ("live", c_uint64)],
+    (*_problem, *_residues, *_levels, *_marks),
+)
 _is_root = _function("is_root", [("root", c_uint32)], (*_problem, c_uint32))
 _next_root = _function(
     "next_root", [("found", c_uint32), ("root", c_uint32)], (c_uint32, c_uint32, *_residues, *_levels, c_uint32)
@@ -127,6 +133,16 @@ def classes(coefficients, p, n):
 def count(coefficients, p, n):
     """The number of roots."""
     return _solved(coefficients, p, n)[0].roots
+
+
+def live(coefficients, p, n):
+    """The number of live classes.
+
+    Everything is live. A live class a/t has the polynomial f(a + p^t * y), coefficients modulo p^n. If they are all 0, it is finished.
+    Otherwise they are divided by the largest power of p common to them, and for each digit c where p divides the value of the quotient,
+    the class of a + p^t * c at level t + 1 is live. Polynomials with the same roots may differ in the number.
+    """
+    return _solved(coefficients, p, n)[0].live
 
 
 def is_root(coefficients, p, n, point):

@@ -23,10 +23,10 @@ use Rattle.capi.specs.declared.count_map.CountAnswer.{CountAnswer}
 use Rattle.capi.specs.declared.read_problem.ReadAnswer.{ReadAnswer}
 use Rattle.capi.specs.declared.write_classes.WriteAnswer.{WriteAnswer}
 
--- "It returns k and the root count"
+-- "It returns k and the root count", and 02, 2.8: "The solver shall report the number of live classes"
 abbrev pub solveAnswer : Solved → SolveAnswer
-solveAnswer (solved.Found k roots) = record { number = 0; place = 0; classes = k; roots = roots }
-solveAnswer (solved.Refused r) = record { number = numberOf r; place = placeOf r; classes = 0; roots = 0 }
+solveAnswer (solved.Found k roots live) = record { number = 0; place = 0; classes = k; roots = roots; live = live }
+solveAnswer (solved.Refused r) = record { number = numberOf r; place = placeOf r; classes = 0; roots = 0; live = 0 }
 
 -- "says yes exactly if pⁿ divides f there": 1 for yes, 0 for no
 abbrev pub testAnswer : Tested → TestAnswer

@@ -10,23 +10,30 @@ pub struct SolveAnswer {
     pub place: usize,
     pub classes: usize,
     pub roots: u64,
+    pub live: u64,
 }
 
 fn solve_answer(solved: Solved) -> SolveAnswer
     ensures { λ r. ⌜ r ≡ solveAnswer solved ⌝ }
 {
     match solved {
-        Solved::Found { classes, roots } => SolveAnswer {
+        Solved::Found {
+            classes,
+            roots,
+            live,
+        } => SolveAnswer {
             number: 0,
             place: 0,
             classes,
             roots,
+            live,
         },
         Solved::Refused(r) => SolveAnswer {
             number: r.number(),
             place: r.place(),
             classes: 0,
             roots: 0,
+            live: 0,
         },
     }
 }

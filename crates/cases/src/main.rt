@@ -1,6 +1,7 @@
 // 01's cases, executed. Standard input has a line for each, in four parts: the operation's letter and the numbers of slots, if not 65;
 // after a ; the coefficients; after a | the call; after a : the expected answer. Call and answer are printed, and the last line counts the
-// answers that differ. The letters: s solver, t test, n next, m map, c count of bytes, d count of the map of 0/1, w writer, r stepping.
+// answers that differ. The letters: s solver, l the solver's number of live classes, t test, n next, m map, c count of bytes, d count of
+// the map of 0/1, w writer, r stepping.
 //
 // A number modulo a bound above its range, as in `at % 256`, is the number: the checker then needs no proof of the range.
 mod answer;
@@ -65,6 +66,7 @@ fn answer_to(
     let marks = l.marks;
     match operation {
         b's' => solving::solve(f, given.count, call, slots, expected),
+        b'l' => solving::live(f, given.count, call, slots),
         b't' => solving::test(f, given.count, call),
         b'r' => steps::steps(f, given.count, call, expected),
         b'n' => next::next(residues, levels, call),

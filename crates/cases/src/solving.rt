@@ -31,13 +31,44 @@ pub(crate) fn solve(f: [i64; 256], c: usize, call: Call, given: Row, expected: R
         bytes_mut(&mut levels, slots(given, 1)),
         bytes_mut(&mut marks, slots(given, 2)),
     ) {
-        Solved::Found { classes, roots } => Answer {
+        Solved::Found {
+            classes,
+            roots,
+            live: _,
+        } => Answer {
             letter: b'k',
             first: classes as u64,
             second: roots,
             same: same(residues, levels, marks, classes, expected),
         },
         Solved::Refused(r) => answer::refused(r, same(residues, levels, marks, 0, expected)),
+    }
+}
+
+// The number of live classes.
+pub(crate) fn live(f: [i64; 256], c: usize, call: Call, given: Row) -> Answer {
+    let mut residues = [0i32; 66];
+    let mut levels = [0u8; 66];
+    let mut marks = [0u8; 66];
+    match solver::solve(
+        prefix::coefficients(&f, c),
+        call.p,
+        call.n,
+        words_mut(&mut residues, slots(given, 0)),
+        bytes_mut(&mut levels, slots(given, 1)),
+        bytes_mut(&mut marks, slots(given, 2)),
+    ) {
+        Solved::Found {
+            classes: _,
+            roots: _,
+            live,
+        } => Answer {
+            letter: b'#',
+            first: live,
+            second: 0,
+            same: true,
+        },
+        Solved::Refused(r) => answer::refused(r, true),
     }
 }
 

@@ -42,6 +42,7 @@ pub(crate) fn steps(f: [i64; 256], c: usize, call: Call, expected: Row) -> Answe
         Solved::Found {
             classes: _,
             roots: _,
+            live: _,
         } => Answer {
             letter: b'#',
             first: expected.item(0),

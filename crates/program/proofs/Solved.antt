@@ -46,7 +46,7 @@ module _ (r : Refusal) (bytes : ℕ) where
 module _ (f : List ℤ) (p n : ℕ) (some : 0 < length f) (few : length f ≤ 65) where
   module _ (given : Lists) (slots : Slots64 given) where
     -- where the solver found the list, p and n are accepted
-    pub found : {k c : ℕ} → solvedOf f p n given ≡ Found k c → judged p n ≡ passes
+    pub found : {k c l : ℕ} → solvedOf f p n given ≡ Found k c l → judged p n ≡ passes
     found e = sym (verdict-judged f p n some few given slots) ∙ found-passes f p n given e
 
     -- and where it refused

@@ -44,7 +44,11 @@ fn print_problem(coefficients: &[i64], p: u32, n: u32, out: &mut [u8]) -> Writte
     let mut levels = [0u8; 64];
     let mut marks = [0u8; 64];
     match solver::solve(coefficients, p, n, &mut residues, &mut levels, &mut marks) {
-        Solved::Found { classes, roots: _ } => writer::write_classes(
+        Solved::Found {
+            classes,
+            roots: _,
+            live: _,
+        } => writer::write_classes(
             p,
             n,
             &residues[..classes],

@@ -1,16 +1,20 @@
 -- What an answer of the solver says: of its verdict, of p and n, and of the first slots of its lists.
 use mathlib.Core.Path.{_≡_, refl, sym, ap, _∙_}
+use mathlib.Core.Bool.{true}
 use mathlib.Core.List.{List, _∷_, map}
-use Prim.Native.Nat.{ℕ, _^_, _≤_}
+use Prim.Native.Nat.{ℕ, _+_, _*_, _^_, _≤_}
 use native.Mathlib.Omega.{arith}
 use native.Mathlib.Nat.{min-le-right}
 use lib.IntN.{ℤ}
 use lib.ListN.{length, length-map, length-take, take, drop}
 use lib.Seq.{take-at}
-use Rattle.theory.specs.Polynomial.{roots}
+use Rattle.theory.specs.Polynomial.{reduced, roots}
+use Rattle.theory.specs.Degree.{degreeBound, allZero}
 use Rattle.theory.specs.SignedClass.{SignedClass, natural, residuesOf, levelsOf}
 use Rattle.theory.specs.Mark.{mark}
+use Rattle.theory.specs.Live.{live}
 use Rattle.theory.specs.Shortest.{count}
+use Rattle.theory.proofs.Live.Bound.{live-most, live-all-zero}
 use Rattle.refusal.specs.declared.Refusal.{Refusal}
 use Rattle.refusal.specs.Rules.{Verdict, passes, refuses, filled, rule2, rule3}
 use Rattle.refusal.proofs.Rules.{tried-first, tried-both}
@@ -20,19 +24,20 @@ use Rattle.numbers.proofs.Rules.{passes-usable}
 use Rattle.solver.specs.declared.Solved.the-variants.{Found, Refused}
 use Rattle.solver.specs.Solve.{Lists, polynomialRules, listRules, solution, marksOf, solverVerdict, solvedOf, foundOr, listsAfter}
 
-found-means : (v : Verdict) (a b k c : ℕ) → foundOr v a b ≡ Found k c → (v ≡ passes) × (k ≡ a) × (c ≡ b)
-found-means passes a b k c e = (refl, cc e, cc e)
-found-means (refuses r) a b k c e = let z : _≡_ {A = ℕ} 0 1 = cc e in absurd (omega arith)
+found-means : (v : Verdict) (a b d k c l : ℕ) → foundOr v a b d ≡ Found k c l → (v ≡ passes) × (k ≡ a) × (c ≡ b) × (l ≡ d)
+found-means passes a b d k c l e = (refl, cc e, cc e, cc e)
+found-means (refuses r) a b d k c l e = let z : _≡_ {A = ℕ} 0 1 = cc e in absurd (omega arith)
 
-refused-means : (v : Verdict) (a b : ℕ) (r : Refusal) → foundOr v a b ≡ Refused r → v ≡ refuses r
-refused-means passes a b r e = let z : _≡_ {A = ℕ} 0 1 = cc e in absurd (omega arith)
-refused-means (refuses s) a b r e = let same : s ≡ r = cc e in ap refuses same
+refused-means : (v : Verdict) (a b d : ℕ) (r : Refusal) → foundOr v a b d ≡ Refused r → v ≡ refuses r
+refused-means passes a b d r e = let z : _≡_ {A = ℕ} 0 1 = cc e in absurd (omega arith)
+refused-means (refuses s) a b d r e = let same : s ≡ r = cc e in ap refuses same
 
 module _ (f : List ℤ) (p n : ℕ) (given : Lists) where
   -- a call that is refused
   pub refused-verdict : (r : Refusal) → solvedOf f p n given ≡ Refused r → solverVerdict f p n given ≡ refuses r
   unfolding solvedOf
-  refused-verdict r e = refused-means (solverVerdict f p n given) (length (solution f p n)) (count (roots f p n) p n) r e
+  refused-verdict r e =
+      refused-means (solverVerdict f p n given) (length (solution f p n)) (count (roots f p n) p n) (live f p n) r e
 
   -- rules that pass pass p and n
   pub passes-modulus : solverVerdict f p n given ≡ passes → Usable p n (p ^ n)
@@ -43,11 +48,11 @@ module _ (f : List ℤ) (p n : ℕ) (given : Lists) where
       let all = tried-both (polynomialRules f p n) (listRules given (length (solution f p n))) v .0 in
       passes-usable p n (tried-first (rule3 c) m (tried-first (rule2 c) (rule3 c ∷ m) all .1) .1) (p ^ n) refl
 
-  -- a call that is accepted, with k and the root count
-  module _ {k c : ℕ} (e : solvedOf f p n given ≡ Found k c) where
-    known : (solverVerdict f p n given ≡ passes) × (k ≡ length (solution f p n)) × (c ≡ count (roots f p n) p n)
+  -- a call that is accepted, with k, the root count and the number of live classes
+  module _ {k c l : ℕ} (e : solvedOf f p n given ≡ Found k c l) where
+    known : (solverVerdict f p n given ≡ passes) × (k ≡ length (solution f p n)) × (c ≡ count (roots f p n) p n) × (l ≡ live f p n)
     unfolding solvedOf
-    known = found-means (solverVerdict f p n given) (length (solution f p n)) (count (roots f p n) p n) k c e
+    known = found-means (solverVerdict f p n given) (length (solution f p n)) (count (roots f p n) p n) (live f p n) k c l e
 
     pub found-passes : solverVerdict f p n given ≡ passes
     found-passes = known .0
@@ -57,6 +62,17 @@ module _ (f : List ℤ) (p n : ℕ) (given : Lists) where
 
     pub found-count : c ≡ count (roots f p n) p n
     found-count = known .2
+
+    pub found-live : l ≡ live f p n
+    found-live = known .3
+
+    -- "never above 1 + n × D"
+    pub found-live-most : l ≤ 1 + n * degreeBound p (reduced f p n)
+    found-live-most = rw found-live (live-most f p n (passes-modulus found-passes .prime))
+
+    -- "it is 1 if all coefficients reduce to zero"
+    pub found-live-one : allZero (reduced f p n) ≡ true → l ≡ 1
+    found-live-one z = found-live ∙ live-all-zero f p n (passes-modulus found-passes .prime .two) z
 
     -- the first k slots of a list that was filled
     front : {A : Type 0} (h : SignedClass → A) (old : List A)

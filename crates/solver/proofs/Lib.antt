@@ -15,6 +15,7 @@ mod Node
 mod Most
 mod Settling
 mod Child
+mod Counting
 mod Scanning
 mod Top
 mod Coefficients

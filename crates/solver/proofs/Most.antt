@@ -11,7 +11,8 @@ use Rattle.theory.specs.Prime.{Prime}
 use Rattle.theory.specs.Polynomial.{zeros}
 use Rattle.theory.specs.Degree.{leastValuation, degreeBound, allZero}
 use Rattle.theory.specs.inner.Tree.{tree}
-use Rattle.theory.specs.inner.Polynomial.{taylor, shifted, Degree}
+use Rattle.theory.specs.Taylor.{taylor, shifted}
+use Rattle.theory.specs.inner.Polynomial.{Degree}
 use Rattle.theory.proofs.Numbers.Power.{pow-dvd}
 use Rattle.theory.proofs.Numbers.Congruence.{cong-down}
 use Rattle.theory.proofs.Range.{all-intro}

@@ -13,7 +13,7 @@ use Rattle.theory.specs.Degree.{every}
 use Rattle.theory.specs.Class.{Class}
 use Rattle.theory.specs.SignedClass.{signed}
 use Rattle.theory.specs.inner.Tree.{tree, branch, deeper}
-use Rattle.theory.specs.inner.Polynomial.{taylor}
+use Rattle.theory.specs.Taylor.{taylor}
 use Rattle.theory.proofs.Tests.{contradiction}
 use Rattle.theory.proofs.Numbers.Prime.{prime-pos}
 use Rattle.theory.proofs.Lists.Map.{map-append, map-map, map-same}
@@ -111,8 +111,9 @@ module _ {f : List ℕ} {M : PrimePower} {x : Node} (P : Primitive f M x) where
           ∙ whole-digits S p (x .left - 1) hp (vanishes p f) none
           ∙ ap (λ (l : ℕ). allBelow S (p ^ l)) left)
 
-      pub scanned-done : allBelow S (p ^ x .left) ≡ false → Done S p x k (record { k = at; whole = false }) out₀ out
-      scanned-done w =
+      pub scanned-done : (live : ℕ) → allBelow S (p ^ x .left) ≡ false
+          → Done S p x k (record { k = at; whole = false; live = live }) out₀ out
+      scanned-done live w =
           let T = ap (tree S p) (sym left) ∙ tree-digits S p (x .left - 1) hp (vanishes p f) none (rw left w) in
           record { added = rw T (s .added); is-whole = sym w }
 

@@ -11,6 +11,7 @@ use lib.Seq.{getD-take}
 use Rattle.theory.specs.Range.{allBelow}
 use Rattle.theory.specs.Polynomial.{zeros, divided}
 use Rattle.theory.specs.Degree.{leastValuation, degreeBound, allZero, every}
+use Rattle.theory.specs.Live.{liveOf}
 use Rattle.theory.specs.inner.Polynomial.{coef}
 use Rattle.theory.proofs.Tests.{contradiction}
 use Rattle.theory.proofs.Numbers.Power.{pow-pos, pow-split}
@@ -21,6 +22,7 @@ use Rattle.theory.proofs.Polynomials.Arithmetic.{coef-divided, divided-map}
 use Rattle.theory.proofs.Polynomials.Degree.{least-valuation-dvd, least-valuation-lt, some-passes}
 use Rattle.theory.proofs.Polynomials.Highest.{some-map, highest-map}
 use Rattle.theory.proofs.Polynomials.Zeros.{zeros-all, zeros-constant, zeros-divided}
+use Rattle.theory.proofs.Live.Carried.{live-divided}
 use Rattle.solver.specs.declared.tree.PrimePower.{PrimePower}
 use Rattle.solver.specs.declared.tree.Node.{Node}
 use Rattle.solver.specs.inner.Table.{Below, prime-to, degreeModulo, nonzeroModulo}
@@ -39,11 +41,12 @@ first-entry (suc len) g z = getD-take (suc len) g 0 0 (omega arith)
 abbrev pub lowered : PrimePower → ℕ → ℕ → PrimePower
 lowered M s q = record { p = M .p; exponent = M .exponent - s; power = M .power / q }
 
--- h modulo R is f divided by the highest common power of p: its zeros are those of f, and its degree modulo p is D
+-- h modulo R is f divided by the highest common power of p: its zeros are those of f, and so are its live classes; its degree modulo p is D
 pub record Quotient (f : List ℕ) (M : PrimePower) (x : Node) (h : List ℕ) (R : PrimePower) : Type 0 where
   pub primitive : Primitive h R x
   pub degree : degreeModulo (M .p) h ≡ mostClasses (M .p) f
   pub same-zeros : zeros f (M .p) (M .exponent) ≡ zeros h (M .p) (R .exponent)
+  pub same-live : liveOf f (M .p) (M .exponent) (x .left) ≡ liveOf h (M .p) (R .exponent) (x .left)
 
 module _ {f : List ℕ} {M : PrimePower} {x : Node} (N : AtNode f M x) where
   abbrev p : ℕ
@@ -68,9 +71,9 @@ module _ {f : List ℕ} {M : PrimePower} {x : Node} (N : AtNode f M x) where
   pub last-whole : x .left ≡ 0 → allBelow S (p ^ x .left) ≡ eqb (coef f 0) 0
   last-whole z = rw (z, pow-zero p) (all-one S ∙ zeros-constant f p e (below .at 0))
 
-  pub last-none : (k : ℕ) (out : List ℕ) → x .left ≡ 0 → allBelow S (p ^ x .left) ≡ false
-      → Done S p x k (record { k = k; whole = false }) out out
-  last-none k out z w = record { added = rw (z, tree-none S p (rw z at w)) (added-none k out); is-whole = sym w }
+  pub last-none : (k live : ℕ) (out : List ℕ) → x .left ≡ 0 → allBelow S (p ^ x .left) ≡ false
+      → Done S p x k (record { k = k; whole = false; live = live }) out out
+  last-none k live out z w = record { added = rw (z, tree-none S p (rw z at w)) (added-none k out); is-whole = sym w }
 
   -- a class that is whole takes room
   pub whole-room : {k n : ℕ} → allBelow S (p ^ x .left) ≡ true → k + mostClasses p f ≤ n → k < n
@@ -139,4 +142,8 @@ module _ {f : List ℕ} {M : PrimePower} {x : Node} (N : AtNode f M x) where
                 ap (zeros f p) (sym same)
                 ∙ zeros-divided f p s (e - s) hp (rw s-is (least-valuation-dvd p (N .modulus .prime .two) f))
                 ∙ ap (λ (g : List ℕ). zeros g p (e - s)) (sym (h-is ∙ ap (λ (d : ℕ). divided d f) q-is));
+            same-live =
+                live-divided p (N .modulus .prime .two) e s (e - s) (x .left) f same
+                (rw s-is (least-valuation-dvd p (N .modulus .prime .two) f))
+                ∙ ap (λ (g : List ℕ). liveOf g p (e - s) (x .left)) (sym (h-is ∙ ap (λ (d : ℕ). divided d f) q-is));
           }

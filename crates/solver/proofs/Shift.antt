@@ -5,7 +5,8 @@ use Prim.Native.Nat.{ℕ, zero, suc, _+_, _*_, _%_, _^_, _<_, min}
 use native.Mathlib.Decide.{decLt}
 use native.Mathlib.Omega.{arith}
 use lib.ListN.{length}
-use Rattle.theory.specs.inner.Polynomial.{coef, taylor, shifted}
+use Rattle.theory.specs.Taylor.{taylor, shifted}
+use Rattle.theory.specs.inner.Polynomial.{coef}
 use Rattle.theory.specs.inner.Overwritten.{Overwritten}
 use Rattle.theory.proofs.Numbers.Congruence.{Congruent, cong-refl, cong-add, cong-mul}
 use Rattle.theory.proofs.Polynomials.Arithmetic.{coef-stretch}

@@ -10,6 +10,7 @@ use lib.ListN.{length}
 use Rattle.theory.specs.Polynomial.{reduced, roots}
 use Rattle.theory.specs.Shortest.{count}
 use Rattle.theory.specs.Mark.{mark}
+use Rattle.theory.specs.Live.{live}
 use Rattle.refusal.specs.declared.Refusal.{Refusal}
 use Rattle.refusal.specs.declared.Refusal.the-variants.{NoCoefficient, TooManyCoefficients, Lengths, TooFewSlots}
 use Rattle.refusal.specs.Rules.{Verdict, passes, refuses, tried, rule2, rule3, rule8}
@@ -79,8 +80,8 @@ module _ (f : List ℤ) (p n : ℕ) (given : Lists) where
     verdict-is = tried-leads (polynomialRules f p n) (listRules given (length (solution f p n))) (U .accepted)
 
     pub solved-is : solvedOf f p n given ≡ reducedSolved (reduced f p n) p n given
-    unfolding solvedOf solution roots
-    solved-is = ap (λ (v : Verdict). foundOr v (length (solution f p n)) (count (roots f p n) p n)) verdict-is
+    unfolding solvedOf solution roots live
+    solved-is = ap (λ (v : Verdict). foundOr v (length (solution f p n)) (count (roots f p n) p n) (live f p n)) verdict-is
 
     pub lists-are : listsAfter f p n given ≡ reducedLists (reduced f p n) p n given
     unfolding listsAfter solution roots mark

@@ -9,6 +9,7 @@ use Rattle.theory.specs.SignedClass.{SignedClass, natural, residuesOf, levelsOf
 use Rattle.theory.specs.SignedList.{signedList}
 use Rattle.theory.specs.Shortest.{count}
 use Rattle.theory.specs.Mark.{mark}
+use Rattle.theory.specs.Live.{live}
 use Rattle.refusal.specs.Rules.{Verdict, passes, refuses, tried, filled, rule2, rule3, rule6Three, rule8, rule11}
 use Rattle.numbers.specs.Modulus.{modulusRules}
 use Rattle.solver.specs.declared.Solved.{Solved}
@@ -53,14 +54,15 @@ marksOf f p n = map (λ c. mark f p n (natural p c)) (solution f p n)
 unfoldable pub solverVerdict : List ℤ → ℕ → ℕ → Lists → Verdict
 solverVerdict f p n given = tried (polynomialRules f p n ++ listRules given (length (solution f p n)))
 
--- "It returns k and the root count"
-abbrev pub foundOr : Verdict → ℕ → ℕ → Solved
-foundOr passes k roots = Found k roots
-foundOr (refuses r) k roots = Refused r
+-- "It returns k and the root count", and "The solver shall report the number of live classes" (02, 2.8)
+abbrev pub foundOr : Verdict → ℕ → ℕ → ℕ → Solved
+foundOr passes k roots live = Found k roots live
+foundOr (refuses r) k roots live = Refused r
 
 -- what a call of the solver answers
 unfoldable pub solvedOf : List ℤ → ℕ → ℕ → Lists → Solved
-solvedOf f p n given = foundOr (solverVerdict f p n given) (length (solution f p n)) (count (roots f p n) p n)
+solvedOf f p n given =
+    foundOr (solverVerdict f p n given) (length (solution f p n)) (count (roots f p n) p n) (live f p n)
 
 -- and what the three lists hold after it
 unfoldable pub listsAfter : List ℤ → ℕ → ℕ → Lists → Lists

@@ -32,8 +32,12 @@ fn check_polynomial(coefficients: &[i64], p: u32, n: u32) -> Modulus
 }
 
 pub enum Solved {
-    // the number of classes, which are the first entries of the lists, and the number of roots
-    Found { classes: usize, roots: u64 },
+    // the number of classes, which are the first entries of the lists, the number of roots, and the number of live classes
+    Found {
+        classes: usize,
+        roots: u64,
+        live: u64,
+    },
     Refused(Refusal),
 }
 

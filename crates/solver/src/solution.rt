@@ -3,6 +3,7 @@ ghost use mathlib.Core.Path.{_≡_};
 ghost use mathlib.Core.List.{map};
 ghost use Prim.Native.Nat.{_≤_, _<_};
 ghost use lib.ListN.{length, take};
+ghost use Rattle.theory.specs.Live.{liveOf};
 ghost use Rattle.numbers.specs.inner.Usable.{Usable};
 ghost use Rattle.solver.specs.Solve.{lists as listsOf};
 ghost use Rattle.solver.specs.inner.Table.{Below};
@@ -15,13 +16,15 @@ use crate::sort;
 use crate::tree;
 use crate::tree::Node;
 use crate::tree::PrimePower;
+use crate::tree::Settled;
 use refusal::Refusal;
 
 // The classes of the zeros modulo m = pⁿ of the polynomial whose coefficients are the first c of the row: their codes go, rising, into the
-// first entries of `codes`. Their number.
-fn zero_classes(row: [u32; 65], c: usize, p: u32, n: u32, m: u64, codes: &mut [u64]) -> usize
+// first entries of `codes`. Their number, and the number of live classes.
+fn zero_classes(row: [u32; 65], c: usize, p: u32, n: u32, m: u64, codes: &mut [u64]) -> Settled
     requires { ⌜ Usable p n m × (c ≤ 65) × Below m (take c row) × (64 ≤ length (now codes)) ⌝ }
-    ensures { λ r. ⌜ (r ≤ 64) × (take r (now (codes .exit)) ≡ map code (zeroClasses (take c row) p n)) ⌝ }
+    ensures classes { λ r. ⌜ (r .k ≤ 64) × (take (r .k) (now (codes .exit)) ≡ map code (zeroClasses (take c row) p n)) ⌝ }
+    ensures live { λ r. ⌜ r .live ≡ liveOf (take c row) p n n ⌝ }
 {
     let over = PrimePower {
         p: p as u64,
@@ -35,12 +38,11 @@ fn zero_classes(row: [u32; 65], c: usize, p: u32, n: u32, m: u64, codes: &mut [u
         left: n as u64,
     };
     let settled = tree::settle(row, c, over, everything, codes, 0);
-    let k = settled.k;
-    sort::sort(codes, k);
-    k
+    sort::sort(codes, settled.k);
+    settled
 }
 
-// The classes, their marks and the root count for the first c coefficients of the row. Rules 6 and 11; a refusal alters nothing.
+// The classes, their marks, the root count and the number of live classes for the first c coefficients of the row. Rules 6 and 11; a refusal alters nothing.
 pub(crate) fn solve_reduced(
     row: [u32; 65],
     c: usize,
@@ -63,7 +65,8 @@ pub(crate) fn solve_reduced(
         return Solved::Refused(Refusal::Lengths(shortest));
     }
     let mut codes = [0u64; 64];
-    let k = zero_classes(row, c, p, n, m, &mut codes);
+    let settled = zero_classes(row, c, p, n, m, &mut codes);
+    let k = settled.k;
     if slots < k {
         return Solved::Refused(Refusal::TooFewSlots(k));
     }
@@ -74,5 +77,6 @@ pub(crate) fn solve_reduced(
     Solved::Found {
         classes: k,
         roots: numbers::member_total(p, n, &levels[..k]),
+        live: settled.live,
     }
 }

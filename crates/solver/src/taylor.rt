@@ -3,7 +3,8 @@ ghost use mathlib.Core.Path.{_≡_};
 ghost use mathlib.Core.List.{_∷_};
 ghost use Prim.Native.Nat.{ℕ, _+_, _*_, _%_, _^_, _≤_, _<_};
 ghost use lib.ListN.{length, getD};
-ghost use Rattle.theory.specs.inner.Polynomial.{coef, taylor as taylorOf, shifted as shiftedOf};
+ghost use Rattle.theory.specs.Taylor.{taylor as taylorOf, shifted as shiftedOf};
+ghost use Rattle.theory.specs.inner.Polynomial.{coef};
 ghost use Rattle.theory.specs.inner.Overwritten.{Overwritten};
 ghost use Rattle.solver.specs.inner.Table.{Residues};
 

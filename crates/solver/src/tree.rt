@@ -5,6 +5,7 @@ ghost use Prim.Native.Nat.{ℕ, _+_, _^_, _≤_, _<_};
 ghost use lib.ListN.{length, take};
 ghost use Rattle.theory.specs.Range.{allBelow};
 ghost use Rattle.theory.specs.Polynomial.{zeros as zerosOf};
+ghost use Rattle.theory.specs.Live.{liveOf};
 ghost use Rattle.solver.specs.inner.Table.{degreeModulo};
 ghost use Rattle.solver.specs.inner.Recursion.{IsNode, AtNode, Primitive, childAt, mostClasses, Done};
 use crate::code;
@@ -36,18 +37,22 @@ pub(crate) struct Settled {
     pub(crate) k: usize,
     // whether the class settled is whole
     pub(crate) whole: bool,
+    // the number of live classes: it and those below it
+    pub(crate) live: u64,
 }
 
 // Puts the node's class, which is whole, after the first k.
-fn put_whole(node: Node, out: &mut [u64], k: usize) -> Settled
+fn put_whole(node: Node, live: u64, out: &mut [u64], k: usize) -> Settled
     requires { ⌜ (node .residue < node .power) × (node .power ≤ 4294967295) × (node .level < 256) × (k < length (now out)) ⌝ }
-    ensures { λ r. ⌜ ((S : ℕ → Bool) (p : ℕ) → node .power ≡ p ^ node .level → allBelow S (p ^ node .left) ≡ true
+    ensures classes { λ r. ⌜ ((S : ℕ → Bool) (p : ℕ) → node .power ≡ p ^ node .level → allBelow S (p ^ node .left) ≡ true
         → Done S p node k r (now (out .entry)) (now (out .exit))) ⌝ }
+    ensures live { λ r. ⌜ r .live ≡ live ⌝ }
 {
     out[k] = code::code(node.residue, node.power, node.level);
     Settled {
         k: k + 1,
         whole: true,
+        live,
     }
 }
 
@@ -75,17 +80,23 @@ pub(crate) fn settle(
     k: usize,
 ) -> Settled
     requires { ⌜ (len ≤ 65) × AtNode (take len g) over node × (k + mostClasses (over .p) (take len g) ≤ length (now out)) ⌝ }
-    ensures { λ r. ⌜ Done (zerosOf (take len g) (over .p) (over .exponent)) (over .p) node k r (now (out .entry)) (now (out .exit)) ⌝ }
+    ensures classes { λ r. ⌜ Done (zerosOf (take len g) (over .p) (over .exponent)) (over .p) node k r
+        (now (out .entry)) (now (out .exit)) ⌝ }
+    ensures live { λ r. ⌜ r .live ≡ liveOf (take len g) (over .p) (over .exponent) (node .left) ⌝ }
 {
     let coefficients = &g[..len];
     if polynomial::all_zero(coefficients) {
-        return put_whole(node, out, k);
+        return put_whole(node, 1, out, k);
     }
     if node.left == 0 {
         if g[0] == 0 {
-            return put_whole(node, out, k);
+            return put_whole(node, 1, out, k);
         }
-        return Settled { k, whole: false };
+        return Settled {
+            k,
+            whole: false,
+            live: 1,
+        };
     }
     let s = valuation::least_valuation(coefficients, over.p);
     let power = numbers::power(over.p as u32, s as u32);
@@ -101,14 +112,16 @@ pub(crate) fn settle(
 // The same by the p classes one level below. Only a digit at which h vanishes modulo p can have a zero below it.
 fn scan(h: &[u32], over: PrimePower, node: Node, out: &mut [u64], k: usize) -> Settled
     requires { ⌜ Primitive (now h) over node × (k + degreeModulo (over .p) (now h) ≤ length (now out)) ⌝ }
-    ensures { λ r. ⌜ Done (zerosOf (now (h .entry)) (over .p) (over .exponent)) (over .p) node k r
+    ensures classes { λ r. ⌜ Done (zerosOf (now (h .entry)) (over .p) (over .exponent)) (over .p) node k r
         (now (out .entry)) (now (out .exit)) ⌝ }
+    ensures live { λ r. ⌜ r .live ≡ liveOf (now (h .entry)) (over .p) (over .exponent) (node .left) ⌝ }
 {
     let mut zeros = [0u16; 64];
     let count = digits::zero_digits(h, over.p, &mut zeros);
     let cap = numbers::smaller(over.exponent as usize, h.len());
     let mut at = k;
     let mut all = true;
+    let mut live: u64 = 1;
     let mut i: usize = 0;
     while i < count {
         let c = zeros[i] as u64;
@@ -119,13 +132,15 @@ fn scan(h: &[u32], over: PrimePower, node: Node, out: &mut [u64], k: usize) -> S
         if !settled.whole {
             all = false;
         }
+        live += settled.live;
         i += 1;
     }
     if all && count as u64 == over.p {
-        return put_whole(node, out, k);
+        return put_whole(node, live, out, k);
     }
     Settled {
         k: at,
         whole: false,
+        live,
     }
 }

@@ -16,9 +16,10 @@ pub record Input : Type 0 where
   pub n : ℕ
   pub given : Lists
 
--- the call is accepted and returns k and the root count: the solver's contract, clause `answer`
+-- the call is accepted and returns k, the root count and a number of live classes: the solver's contract, clause `answer`
 pub record Accepted (x : Input) (k roots : ℕ) : Type 0 where
-  pub answer : solvedOf (x .f) (x .p) (x .n) (x .given) ≡ Found k roots
+  pub live : ℕ
+  pub answer : solvedOf (x .f) (x .p) (x .n) (x .given) ≡ Found k roots live
 
 -- the lists as the solver left them: its contract, clause `lists`
 unfoldable pub listsLeft : Input → Lists

@@ -39,7 +39,8 @@ pub record Demand (x : Input) (k : ℕ) : Type 0 where
   pub stepping : (q m : ℕ) → answersFrom (nextCall x k) q m ≡ claimed (roots (x .f) (x .p) (x .n)) (x .p) (x .n) q m
 
 -- "Two accepted calls of the solver with the same p and n, whatever their coefficients, whose root sets are equal return the same k and the
--- same root count and put the same residues and levels into their first k slots, slot by slot"
+-- same root count and put the same residues and levels into their first k slots, slot by slot". Of live classes it says nothing:
+-- "Polynomials with equal root sets may differ in it" (02, 2.8)
 pub record Same (x y : Input) (k count k′ count′ : ℕ) : Type 0 where
   pub same-k : k ≡ k′
   pub same-count : count ≡ count′

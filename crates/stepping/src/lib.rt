@@ -39,7 +39,11 @@ pub fn step_through(
         (now (answers .entry)) ⌝ }
 {
     match solver::solve(coefficients, p, n, residues, levels, marks) {
-        Solved::Found { classes, roots } => {
+        Solved::Found {
+            classes,
+            roots,
+            live,
+        } => {
             ask(
                 p,
                 n,
@@ -48,7 +52,11 @@ pub fn step_through(
                 start,
                 answers,
             );
-            Solved::Found { classes, roots }
+            Solved::Found {
+                classes,
+                roots,
+                live,
+            }
         }
         Solved::Refused(r) => Solved::Refused(r),
     }

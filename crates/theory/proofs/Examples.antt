@@ -1,9 +1,11 @@
--- 01's cases marked (M): on each the definitions give what the table says.
+-- 01's cases marked (M): on each the definitions give what the table says, and what 02 says of live classes.
 use mathlib.Core.Path.{_≡_, refl}
 use mathlib.Core.List.{map}
+use Prim.Native.Nat.{ℕ}
 use Rattle.theory.specs.SignedClass.{natural, naturals}
 use Rattle.theory.specs.RootMap.{rootMap}
-use Rattle.theory.specs.Examples.{Case, outcome, table, first, firstMap}
+use Rattle.theory.specs.Live.{live}
+use Rattle.theory.specs.Examples.{Problem, Case, outcome, table, first, firstMap, liveColumn, one, squarePlusTwo}
 
 -- one theorem over the whole table: classes, marks and root counts, and the first case's map
 pub cases-hold :
@@ -11,3 +13,15 @@ pub cases-hold :
     × (rootMap 2 4 (naturals 2 (first .expected .classes)) ≡ firstMap)
 unfolding table outcome natural rootMap
 cases-hold = (refl, refl)
+
+abbrev liveIn : Problem → ℕ
+liveIn c = live (c .f) (c .p) (c .n)
+
+pub live-cases : map (λ (c : Case). liveIn (c .given)) table ≡ liveColumn
+unfolding table live liveColumn
+live-cases = refl
+
+-- equal lists, marks and root counts, and another number of live classes
+pub live-may-differ : (outcome one ≡ outcome squarePlusTwo) × (liveIn one ≡ 1) × (liveIn squarePlusTwo ≡ 2)
+unfolding outcome live
+live-may-differ = (refl, refl, refl)

@@ -8,6 +8,7 @@ pub mod Least
 pub mod Classes
 pub mod Polynomials
 pub mod Mark
+pub mod Live
 pub mod RootMap
 pub mod Stepping
 pub mod ThirdDemand

@@ -2,6 +2,7 @@
 pub mod Arithmetic
 pub mod Taylor
 pub mod Congruence
+pub mod Shifts
 pub mod Zeros
 pub mod Quotient
 pub mod Orders

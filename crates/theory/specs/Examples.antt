@@ -68,3 +68,15 @@ table =
     -- 3x, p = 3, n = 2
     ∷ case (pos 0 ∷ pos 3 ∷ []) 3 2 (signedClass (pos 0) 1 ∷ []) (1 ∷ []) 3
     ∷ []
+
+-- the number of live classes of each of these cases (02, 2.8): "For x² − 1 modulo 16 it is 6", the first; it is 1 for 0 and for 25, "if all
+-- coefficients reduce to zero"
+unfoldable pub liveColumn : List ℕ
+liveColumn = 6 ∷ 4 ∷ 3 ∷ 2 ∷ 2 ∷ 1 ∷ 1 ∷ 1 ∷ 5 ∷ 2 ∷ []
+
+-- "Polynomials with equal root sets may differ in it": 1 and x² + 2 modulo 4 have no root
+abbrev pub one : Problem
+one = record { f = pos 1 ∷ []; p = 2; n = 2 }
+
+abbrev pub squarePlusTwo : Problem
+squarePlusTwo = record { f = pos 2 ∷ pos 0 ∷ pos 1 ∷ []; p = 2; n = 2 }

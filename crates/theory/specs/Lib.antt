@@ -4,12 +4,14 @@ pub mod Range
 pub mod Prime
 pub mod Polynomial
 pub mod Degree
+pub mod Taylor
 pub mod Class
 pub mod Shortest
 pub mod Centered
 pub mod SignedClass
 pub mod SignedList
 pub mod Mark
+pub mod Live
 pub mod ClassList
 pub mod RootMap
 pub mod Rival

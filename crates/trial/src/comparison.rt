@@ -4,6 +4,7 @@ use crate::coefficients::Polynomial;
 use crate::content;
 use crate::library;
 use crate::listed;
+use crate::live;
 use crate::mapped;
 use crate::marks;
 use crate::modular::Modulus;
@@ -104,7 +105,8 @@ pub(crate) fn run(polynomial: Polynomial, x: Modulus, mut tally: Tally) -> Tally
     tally = tally.compare(tally::ACCEPTED, k < 65);
     tally = tally.compare(tally::UNUSED, listed::unused(list, levels, marks, k));
     tally = tally.compare(tally::ROOTS, s.roots == roots.count as u64);
-    tally = tally.compare(tally::BOUND, bound::holds(h, x.p, k));
+    tally = tally.compare(tally::LIVE, s.live == live::count(g, c, x) as u64);
+    tally = tally.compare(tally::BOUND, bound::holds(h, x, k, s.live));
     tally = tally.compare(tally::TEST, library::test(f, c, x, x.m) == 2);
     tally = tally.compare(
         tally::NEXT,

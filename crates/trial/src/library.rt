@@ -12,6 +12,7 @@ pub(crate) struct Solution {
     // the number of classes, and 65 for a refusal
     pub(crate) k: usize,
     pub(crate) roots: u64,
+    pub(crate) live: u64,
     pub(crate) residues: [i32; 65],
     pub(crate) levels: [u8; 65],
     pub(crate) marks: [u8; 65],
@@ -30,9 +31,14 @@ pub(crate) fn solve(f: [i64; 65], c: usize, x: Modulus) -> Solution {
         &mut levels,
         &mut marks,
     ) {
-        Solved::Found { classes, roots } => Solution {
+        Solved::Found {
+            classes,
+            roots,
+            live,
+        } => Solution {
             k: classes,
             roots,
+            live,
             residues,
             levels,
             marks,
@@ -40,6 +46,7 @@ pub(crate) fn solve(f: [i64; 65], c: usize, x: Modulus) -> Solution {
         Solved::Refused(_) => Solution {
             k: 65,
             roots: 0,
+            live: 0,
             residues,
             levels,
             marks,

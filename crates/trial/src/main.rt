@@ -1,5 +1,6 @@
 // Small polynomials against plain trial of residues: every answer of the solver, of the test, of next and of the map is compared with
-// what evaluation at each residue gives. The last line says how many answers differ.
+// what evaluation at each residue gives, and the number of live classes with a count by its definition. The last line says how many answers
+// differ.
 //
 // A number modulo a bound above its range, as in `c % 66`, is the number: the checker then needs no proof of the range.
 mod bound;
@@ -10,6 +11,7 @@ mod drawn;
 mod factors;
 mod library;
 mod listed;
+mod live;
 mod mapped;
 mod marks;
 mod modular;

@@ -30,15 +30,17 @@ pub(crate) const SHARED: usize = 16;
 
 pub(crate) const ROOTS: usize = 18;
 
-pub(crate) const BOUND: usize = 20;
+pub(crate) const LIVE: usize = 20;
 
-pub(crate) const NEXT: usize = 22;
+pub(crate) const BOUND: usize = 22;
 
-pub(crate) const MAP: usize = 24;
+pub(crate) const NEXT: usize = 24;
 
-pub(crate) const ONES: usize = 26;
+pub(crate) const MAP: usize = 26;
 
-const DIFFERENCES: usize = 28;
+pub(crate) const ONES: usize = 28;
+
+const DIFFERENCES: usize = 30;
 
 impl Tally {
     // x more at a place.
@@ -81,7 +83,8 @@ later slots kept: # compared, # differ
 member of a class exactly if a root: # compared, # differ
 member of one class at most: # compared, # differ
 root count: # compared, # differ
-at most D classes: # compared, # differ
+number of live classes: # compared, # differ
+at most D classes and 1 + n * D live classes: # compared, # differ
 next root: # compared, # differ
 bit of the map: # compared, # differ
 count of the map: # compared, # differ

@@ -41,7 +41,7 @@ module _ (c : tie.After-classes) where
   abbrev given : Lists
   given = lists (replicate 64 (pos 0)) (replicate 64 0) (replicate 64 0)
 
-  found-it : solvedOf f (call .args .p) (call .args .n) given ≡ Found k (c .classes .given .0 .1 .0)
+  found-it : solvedOf f (call .args .p) (call .args .n) given ≡ Found k (c .classes .given .0 .1 .0) (c .classes .given .0 .1 .1 .0)
   found-it = sym (solved .solve .ensures .0) ∙ c .classes .given .1
 
   passed : judged (call .args .p) (call .args .n) ≡ passes

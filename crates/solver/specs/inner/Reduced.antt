@@ -7,6 +7,7 @@ use Rattle.theory.specs.SignedClass.{SignedClass, natural}
 use Rattle.theory.specs.SignedList.{signedList}
 use Rattle.theory.specs.Shortest.{count}
 use Rattle.theory.specs.Mark.{markOf}
+use Rattle.theory.specs.Live.{liveOf}
 use Rattle.refusal.specs.Rules.{Verdict, tried}
 use Rattle.solver.specs.declared.Solved.{Solved}
 use Rattle.solver.specs.Solve.{Lists, listRules, listsFilled, foundOr}
@@ -20,7 +21,8 @@ unfoldable pub reducedVerdict : List ℕ → ℕ → ℕ → Lists → Verdict
 reducedVerdict w p n given = tried (listRules given (length (zeroClasses w p n)))
 
 abbrev pub reducedSolved : List ℕ → ℕ → ℕ → Lists → Solved
-reducedSolved w p n given = foundOr (reducedVerdict w p n given) (length (zeroClasses w p n)) (count (zeros w p n) p n)
+reducedSolved w p n given =
+    foundOr (reducedVerdict w p n given) (length (zeroClasses w p n)) (count (zeros w p n) p n) (liveOf w p n n)
 
 abbrev pub reducedLists : List ℕ → ℕ → ℕ → Lists → Lists
 reducedLists w p n given =

@@ -38,7 +38,7 @@ module _ (c : tie.After-classes) where
   solved = c .before .before .before .before .before .before .before
 
   accepted : Accepted (input solved) (c .classes .given .0 .0) (c .classes .given .0 .1 .0)
-  accepted = record { answer = sym (solved .solve .ensures .0) ∙ c .classes .given .1 }
+  accepted = record { live = c .classes .given .0 .1 .1 .0; answer = sym (solved .solve .ensures .0) ∙ c .classes .given .1 }
 
 solve-requires : tie.Need-solve-requires
 solve-requires c κs = search needs

@@ -9,7 +9,7 @@ use mathlib.Core.Bool.{Bool, true, false}
 use native.Mathlib.Numerals.{add-one}
 use Rattle.theory.proofs.Passing.{passing-next-off, passing-next-on}
 use Rattle.theory.specs.Range.{passing}
-use Rattle.theory.specs.Lists.{In}
+use Rattle.theory.specs.Lists.{In, here, there}
 use Rattle.theory.specs.Class.{Class}
 use Rattle.theory.specs.inner.Tree.{concatBelow}
 use Rattle.theory.proofs.Lists.Names.{in-nil, in-append, in-left, in-right}
@@ -53,6 +53,32 @@ pub flat-next : (f : ℕ → List Class) (l : List ℕ) (c : ℕ) → flat f (l 
 unfolding flat
 flat-next f [] c = append-nil (f c)
 flat-next f (x ∷ l) c = ap (λ r. f x ++ r) (flat-next f l c) ∙ sym (append-assoc (f x) (flat f l) (f c))
+
+pub in-flat : (f : ℕ → List Class) (l : List ℕ) (e : Class) → In e (flat f l) → (c : ℕ) × In c l × In e (f c)
+unfolding flat
+in-flat f [] e u = absurd (in-nil u)
+in-flat f (x ∷ l) e u = go (in-flat f l e) (in-append (f x) u)
+  where
+    go : (In e (flat f l) → (c : ℕ) × In c l × In e (f c)) → In e (f x) ⊎ In e (flat f l) → (c : ℕ) × In c (x ∷ l) × In e (f c)
+    go ih (inl w) = (x, here refl, w)
+    go ih (inr w) = let (c, v, m) = ih w in (c, there v, m)
+
+pub flat-in : (f : ℕ → List Class) (l : List ℕ) (c : ℕ) (e : Class) → In c l → In e (f c) → In e (flat f l)
+unfolding flat
+flat-in f (x ∷ l) c e (here q) m = let w : In e (f x) = rw (← q) m in in-left (flat f l) w
+flat-in f (x ∷ l) c e (there u) m = in-right (f x) (flat-in f l c e u m)
+
+pub no-repeat-flat : (f : ℕ → List Class) (l : List ℕ) → NoRepeat l → ((c : ℕ) → In c l → NoRepeat (f c))
+    → ((c d : ℕ) (e : Class) → In c l → In d l → In e (f c) → In e (f d) → c ≡ d) → NoRepeat (flat f l)
+unfolding flat
+no-repeat-flat f [] nr each apart = tt
+no-repeat-flat f (x ∷ l) nr each apart =
+    no-repeat-append (f x) (flat f l) (each x (here refl))
+    (no-repeat-flat f l (nr .1) (λ c u. each c (there u)) (λ c d e u v. apart c d e (there u) (there v)))
+    (λ e u v.
+    let (d, w, m) = in-flat f l e v in
+    let q : x ≡ d = apart x d e (here refl) (there w) u m in
+    nr .0 (rw q w))
 
 -- digits that fail the test may be left out where their lists are empty
 pub concat-passing : (f : ℕ → List Class) (test : ℕ → Bool) (k : ℕ) → ((c : ℕ) → c < k → test c ≡ false → f c ≡ [])

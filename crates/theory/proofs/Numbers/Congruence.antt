@@ -2,8 +2,9 @@
 use mathlib.Core.Path.{_≡_, refl, sym, ap, _∙_}
 use Prim.Native.Nat.{ℕ, suc, _+_, _-_, _*_, _/_, _%_, _<_, _∣_}
 use native.Mathlib.Nat.{add-mod, mod-mod, mul-add-mod-self-right, div-add-mod', mod-mod-of-dvd, mul-comm, mod-eq-zero-of-dvd}
-use native.Mathlib.Nat.{dvd-of-mod-eq-zero, zero-mod, add-mul-mod-self-right, mod-eq-of-lt}
+use native.Mathlib.Nat.{dvd-of-mod-eq-zero, zero-mod, add-mul-mod-self-right, mod-eq-of-lt, mod-lt, mul-lt-mul-of-pos-left}
 use native.Mathlib.Omega.{arith}
+use lib.Arith.{digits-mod}
 
 -- x ≡ y mod m, as a record, so that x and y can be implicit
 pub record Congruent (m x y : ℕ) : Type 0 where
@@ -68,3 +69,14 @@ cong-cancel {m} {x} {y} z hm e =
         let q : suc (m - 1) ≡ m = omega arith in
         let s : a + z + z * (m - 1) ≡ a + z * m = omega (arith, ap (λ (x : ℕ). z * x) q) in
         record { same = ap (λ (x : ℕ). x % m) s ∙ add-mul-mod-self-right a z m }
+
+-- (k·x) mod (k·m)
+pub mod-times : (k x m : ℕ) → 0 < k → 0 < m → k * x % (k * m) ≡ k * (x % m)
+mod-times k x m hk hm =
+    let s : k * x ≡ x / m * (k * m) + k * (x % m) = omega (arith, ap (λ (z : ℕ). k * z) (div-add-mod' x m)) in
+    ap (λ (z : ℕ). z % (k * m)) s ∙ digits-mod (x / m) (mul-lt-mul-of-pos-left (mod-lt x hm) hk)
+
+-- a congruence times k, modulus included
+pub cong-times : {m x y : ℕ} (k : ℕ) → 0 < k → 0 < m → Congruent m x y → Congruent (k * m) (k * x) (k * y)
+cong-times {m} {x} {y} k hk hm e =
+    record { same = mod-times k x m hk hm ∙ ap (λ (z : ℕ). k * z) (e .same) ∙ sym (mod-times k y m hk hm) }

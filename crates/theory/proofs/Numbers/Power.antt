@@ -1,6 +1,6 @@
 -- Powers of a base.
 use mathlib.Core.Path.{_≡_, sym, ap, _∙_}
-use Prim.Native.Nat.{ℕ, _+_, _-_, _*_, _^_, _≤_, _<_, _∣_}
+use Prim.Native.Nat.{ℕ, zero, suc, _+_, _-_, _*_, _^_, _≤_, _<_, _∣_}
 use native.Mathlib.Nat.{one-le-pow, dvd-mul-left, mul-le-mul-right, pow-le-pow-left, pow-le-pow-right, pow-suc, pow-succ', pow-zero}
 use native.Mathlib.Numerals.{add-one}
 use native.Mathlib.Decide.{decLt}
@@ -34,3 +34,11 @@ exponent-lt p k m two h = go (decLt k m)
     go : Dec (k < m) → k < m
     go (yes l) = l
     go (no l) = absurd (omega (arith, pow-le-pow-right {n = 2} (omega arith) {i = m} {j = k} (omega arith), pow-le-pow-left two k))
+
+pub pow-mul : (q r i : ℕ) → (q * r) ^ i ≡ q ^ i * r ^ i
+pow-mul q r zero = rw (pow-zero (q * r), pow-zero q, pow-zero r) (omega arith)
+pow-mul q r (suc i) = rw (pow-succ' (q * r) i, pow-succ' q i, pow-succ' r i, pow-mul q r i) (omega arith)
+
+pub one-pow : (i : ℕ) → 1 ^ i ≡ 1
+one-pow zero = pow-zero 1
+one-pow (suc i) = pow-succ' 1 i ∙ rw (one-pow i)

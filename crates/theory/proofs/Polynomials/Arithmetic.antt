@@ -1,12 +1,13 @@
 -- Sums and multiples of polynomials, by coefficients and by values.
 use mathlib.Core.Path.{ap, _≡_, refl, sym, ap₂, _∙_}
 use mathlib.Core.List.{map, List, [], _∷_}
-use Prim.Native.Nat.{ℕ, zero, suc, _+_, _*_, _/_, _^_, _∣_}
+use Prim.Native.Nat.{ℕ, zero, suc, _+_, _*_, _/_, _%_, _^_, _∣_}
 use native.Mathlib.Nat.{zero-add, add-zero, mul-zero, pow-zero, pow-succ', dvd-zero, dvd-add, dvd-mul-left-of-dvd}
-use native.Mathlib.Nat.{mul-div-cancel', zero-div}
+use native.Mathlib.Nat.{mul-div-cancel', zero-div, zero-mod}
 use native.Mathlib.Omega.{arith}
 use Rattle.theory.specs.Polynomial.{value, divided}
-use Rattle.theory.specs.inner.Polynomial.{coef, plus, scale, stretch}
+use Rattle.theory.specs.Taylor.{plus, scale, stretch}
+use Rattle.theory.specs.inner.Polynomial.{coef}
 
 -- Values
 
@@ -69,8 +70,14 @@ unfolding divided
 divided-map q [] = refl
 divided-map q (a ∷ f) = ap (λ xs. a / q ∷ xs) (divided-map q f)
 
+-- a function that keeps 0, at each coefficient
+pub coef-map : (F : ℕ → ℕ) → F 0 ≡ 0 → (f : List ℕ) (i : ℕ) → coef (map F f) i ≡ F (coef f i)
+coef-map F z [] i = sym z
+coef-map F z (a ∷ f) zero = refl
+coef-map F z (a ∷ f) (suc i) = coef-map F z f i
+
+pub coef-modulo : (m : ℕ) (f : List ℕ) (i : ℕ) → coef (map (λ a. a % m) f) i ≡ coef f i % m
+coef-modulo m = coef-map (λ a. a % m) (zero-mod m)
+
 pub coef-divided : (q : ℕ) (f : List ℕ) (i : ℕ) → coef (divided q f) i ≡ coef f i / q
-unfolding divided
-coef-divided q [] i = sym (zero-div q)
-coef-divided q (a ∷ f) zero = refl
-coef-divided q (a ∷ f) (suc i) = coef-divided q f i
+coef-divided q f i = ap (λ (g : List ℕ). coef g i) (divided-map q f) ∙ coef-map (λ a. a / q) (zero-div q) f i

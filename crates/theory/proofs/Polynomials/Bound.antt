@@ -20,7 +20,8 @@ use Rattle.theory.specs.Prime.{Prime}
 use Rattle.theory.proofs.Numbers.Prime.{prime-pos}
 use Rattle.theory.proofs.Range.{all-elim, all-intro}
 use Rattle.theory.proofs.Classes.Tree.{below, tree-whole, tree-none, tree-split}
-use Rattle.theory.specs.inner.Polynomial.{coef, taylor, shifted, Degree}
+use Rattle.theory.specs.Taylor.{taylor, shifted}
+use Rattle.theory.specs.inner.Polynomial.{coef, Degree}
 use Rattle.theory.proofs.Polynomials.Arithmetic.{scale-divided, coef-scale, coef-stretch, value-zero}
 use Rattle.theory.proofs.Polynomials.Zeros.{zero-dvd, zeros-branch, zeros-divided, zeros-everything}
 use Rattle.theory.proofs.Polynomials.Orders.{AtMostOrder, sumFrom, sum-append, sum-same, orders-at-most-degree}

@@ -11,7 +11,8 @@ use Rattle.theory.specs.Prime.{Prime}
 use Rattle.theory.specs.Polynomial.{value, vanishes}
 use Rattle.theory.proofs.Numbers.Prime.{divides-dvd}
 use Rattle.theory.proofs.Range.{passing-on, passing-off}
-use Rattle.theory.specs.inner.Polynomial.{coef, taylor, Degree}
+use Rattle.theory.specs.Taylor.{taylor}
+use Rattle.theory.specs.inner.Polynomial.{coef, Degree}
 use Rattle.theory.proofs.Polynomials.Arithmetic.{value-zero}
 use Rattle.theory.proofs.Polynomials.Taylor.{value-taylor}
 use Rattle.theory.proofs.Polynomials.Orders.{sumFrom, AtMostOrder, orders-at-most-degree}

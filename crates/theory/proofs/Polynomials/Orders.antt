@@ -8,7 +8,8 @@ use native.Mathlib.Omega.{arith}
 use Rattle.theory.specs.Polynomial.{value}
 use Rattle.theory.specs.Prime.{Prime}
 use Rattle.theory.proofs.Numbers.Euclid.{digit-times}
-use Rattle.theory.specs.inner.Polynomial.{coef, taylor, Degree}
+use Rattle.theory.specs.Taylor.{taylor}
+use Rattle.theory.specs.inner.Polynomial.{coef, Degree}
 use Rattle.theory.proofs.Polynomials.Quotient.{quotient, quotient-zero, quotient-suc, quotient-degree, constant-no-zero}
 
 -- f c + f (c + 1) + …, k of them

@@ -5,7 +5,8 @@ use Prim.Native.Nat.{ℕ, zero, suc, pred, _+_, _*_, _≤_, _<_, _∣_}
 use native.Mathlib.Nat.{dvd-zero, dvd-add-iff-left, dvd-mul-left-of-dvd}
 use native.Mathlib.Omega.{arith}
 use Rattle.theory.specs.Polynomial.{value}
-use Rattle.theory.specs.inner.Polynomial.{coef, taylor, Degree}
+use Rattle.theory.specs.Taylor.{taylor}
+use Rattle.theory.specs.inner.Polynomial.{coef, Degree}
 use Rattle.theory.proofs.Polynomials.Arithmetic.{dvd-value}
 use Rattle.theory.proofs.Polynomials.Taylor.{coef-taylor}
 

@@ -5,7 +5,8 @@ use Prim.Native.Nat.{ℕ, suc, _+_, _*_, _≤_}
 use native.Mathlib.Omega.{arith}
 use lib.ListN.{length}
 use Rattle.theory.specs.Polynomial.{value}
-use Rattle.theory.specs.inner.Polynomial.{coef, scale, taylor, shifted}
+use Rattle.theory.specs.Taylor.{scale, taylor, shifted}
+use Rattle.theory.specs.inner.Polynomial.{coef}
 use Rattle.theory.proofs.Polynomials.Arithmetic.{value-plus, value-scale, value-stretch, coef-plus, coef-scale}
 
 pub value-taylor : (c : ℕ) (f : List ℕ) (y : ℕ) → value (taylor c f) y ≡ value f (c + y)

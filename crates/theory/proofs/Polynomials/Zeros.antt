@@ -15,7 +15,8 @@ use Rattle.theory.proofs.Tests.{same-test, not-holding}
 use Rattle.theory.proofs.Numbers.Power.{pow-pos, pow-one, pow-dvd}
 use Rattle.theory.proofs.Numbers.Prime.{divides-dvd, dvd-divides}
 use Rattle.theory.proofs.Numbers.Congruence.{cong-dvd}
-use Rattle.theory.specs.inner.Polynomial.{coef, shifted}
+use Rattle.theory.specs.Taylor.{shifted}
+use Rattle.theory.specs.inner.Polynomial.{coef}
 use Rattle.theory.proofs.Polynomials.Arithmetic.{scale-divided, value-scale, value-zero, dvd-value}
 use Rattle.theory.proofs.Polynomials.Taylor.{value-shifted}
 use Rattle.theory.proofs.Polynomials.Congruence.{cong-argument}

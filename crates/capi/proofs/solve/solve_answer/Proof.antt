@@ -26,7 +26,7 @@ returns c = sym (ap solveAnswer (c .before .solved .given .1))
 returns-2 : tie.Need-returns-2
 returns-2 c =
     let r = c .before .before .before .solved2 .given in
-    refused-is solveAnswer (λ (number place : ℕ). record { number = number; place = place; classes = 0; roots = 0 })
+    refused-is solveAnswer (λ (number place : ℕ). record { number = number; place = place; classes = 0; roots = 0; live = 0 })
     (Refused (r .0 .0)) (r .1) (c .before .number .ensures) (c .place .ensures) refl
 
 pub solve-answer-spec : {M : Type 1} → statement M

@@ -1,5 +1,5 @@
 -- `solver::solution::solve_reduced` meets its contract.
-use mathlib.Core.Path.{_≡_, sym, ap, ap₂, _∙_, fun-ext}
+use mathlib.Core.Path.{_≡_, sym, ap, _∙_, fun-ext}
 use mathlib.Core.Logic.{inl, inr}
 use mathlib.Core.List.{List, _++_, map}
 use Prim.Native.Nat.{ℕ, min, _≤_}
@@ -12,6 +12,7 @@ use Rattle.theory.specs.SignedClass.{SignedClass, natural, levelsOf}
 use Rattle.theory.specs.Polynomial.{zeros, derivative}
 use Rattle.theory.specs.Degree.{primitive}
 use Rattle.theory.specs.Mark.{markOf}
+use Rattle.theory.specs.Shortest.{count}
 use Rattle.theory.proofs.Numbers.Prime.{prime-pos}
 use Rattle.refusal.specs.Rules.{passes, filled}
 use Rattle.solver.specs.declared.Solved.the-variants.{Found}
@@ -56,7 +57,7 @@ module _ (c : tie.After-zero-classes) where
   call = same .before .before .before .before
 
   abbrev k : ℕ
-  k = c .zero-classes .result
+  k = c .zero-classes .result .k
 
   abbrev codes : List ℕ
   codes = take k (c .zero-classes .last .1 .1 .1 .1 .1 .0)
@@ -64,10 +65,10 @@ module _ (c : tie.After-zero-classes) where
   codes-long : length codes ≡ k
   codes-long =
       length-take-le k (c .zero-classes .last .1 .1 .1 .1 .1 .0)
-      (omega (arith, c .zero-classes .kept .1 .1 .1 .1 .1 .0, c .zero-classes .ensures .0))
+      (omega (arith, c .zero-classes .kept .1 .1 .1 .1 .1 .0, c .zero-classes .ensures .0 .0))
 
   number : k ≡ length (L call)
-  number = sym codes-long ∙ ap length (c .zero-classes .ensures .1) ∙ length-map (L call) code
+  number = sym codes-long ∙ ap length (c .zero-classes .ensures .0 .1) ∙ length-map (L call) code
 
   levels-equal : length (given call .residues) ≡ length (given call .levels)
   levels-equal = same .before .if1 .left
@@ -117,7 +118,7 @@ module _ (c : tie.Else3) where
   -- what is written of each class
   stands : {A : Type 0} (h : SignedClass → A) (old : List A)
       → map h (map classOf (codes found)) ++ drop (length (codes found)) old ≡ filled passes (map h (L b)) old
-  stands = written (zeros (w b) (p b) (n b)) (b .pre .0) (codes found) (found .zero-classes .ensures .1)
+  stands = written (zeros (w b) (p b) (n b)) (b .pre .0) (codes found) (found .zero-classes .ensures .0 .1)
 
   -- the marks from the derivative are those over all members
   marks-are : markFrom (p b) (derivative (primitive (p b) (w b))) ≡ (λ (c : SignedClass). markOf (w b) (p b) (n b) (natural (p b) c))
@@ -133,7 +134,7 @@ write-residues-requires : tie.Need-write-residues-requires
 write-residues-requires c κs =
     let s = c .before .before in
     let a = b s in
-    (fit s .0, residues-fit (zeros (w a) (p a) (n a)) (a .pre .0) (codes (found s)) (found s .zero-classes .ensures .1))
+    (fit s .0, residues-fit (zeros (w a) (p a) (n a)) (a .pre .0) (codes (found s)) (found s .zero-classes .ensures .0 .1))
 
 write-levels-requires : tie.Need-write-levels-requires
 write-levels-requires c κs = fit (c .before .before .before .before .before) .1
@@ -169,7 +170,7 @@ write-marks-requires c κs =
     let s = enough (c .before .before .before .before) in
     let a = b s in
     let U = a .pre .0 in
-    let codes-fit = residues-fit (zeros (w a) (p a) (n a)) U (codes (found s)) (found s .zero-classes .ensures .1) in
+    let codes-fit = residues-fit (zeros (w a) (p a) (n a)) U (codes (found s)) (found s .zero-classes .ensures .0 .1) in
     (omega (arith, long a, a .pre .1), omega (arith, long a, a .pre .2), U .prime .two, U .small, fit s .2, codes-fit)
 
 -- Once the marks are written
@@ -211,10 +212,10 @@ returns-3 c =
     let s = enough levelled in
     let a = b s in
     let v =
-    slots-pass (w a) (p a) (n a) (given a) (levels-equal (found s)) (marks-equal (found s)) (number (found s)) (s .if3 .left) in (
-      rw v
-          (ap₂ Found (number (found s))
-          (rw (← total-is (zeros (w a) (p a) (n a)) (a .pre .0), ← levels-are levelled) (c .member-total .ensures))),
+    slots-pass (w a) (p a) (n a) (given a) (levels-equal (found s)) (marks-equal (found s)) (number (found s)) (s .if3 .left) in
+    let total : c .member-total .result ≡ count (zeros (w a) (p a) (n a)) (p a) (n a) =
+    rw (← total-is (zeros (w a) (p a) (n a)) (a .pre .0), ← levels-are levelled) (c .member-total .ensures) in (
+      rw v (λ i. Found (number (found s) i) (total i) (found s .zero-classes .ensures .1 i)),
       rw v (λ i.
           lists
           ((listed .write-residues .ensures ∙ stands s (λ (e : SignedClass). e .residue) (given a .residues)) i)

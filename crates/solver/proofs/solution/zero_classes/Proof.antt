@@ -17,7 +17,7 @@ settle-requires c κs =
     (a .pre .1, top-at (a .pre .0) (short a) (a .pre .2), omega (arith, a .pre .3, top-most (a .pre .0) (short a) (a .pre .2)))
 
 few : (c : tie.After-settle) → c .settle .result .k ≤ 64
-few c = let a = c .before .before .before in top-few (a .pre .0) (short a) (a .pre .2) (c .settle .ensures)
+few c = let a = c .before .before .before in top-few (a .pre .0) (short a) (a .pre .2) (c .settle .ensures .0)
 
 sort-requires : tie.Need-sort-requires
 sort-requires c κs =
@@ -32,7 +32,7 @@ returns c =
     let sorted = c .before .before in
     let s = sorted .before .before .before .before in
     let a = s .before .before .before in
-    (few s, top-sorted (a .pre .0) (short a) (a .pre .2) (s .settle .ensures) (sorted .sort .ensures))
+    ((few s, top-sorted (a .pre .0) (short a) (a .pre .2) (s .settle .ensures .0) (sorted .sort .ensures)), s .settle .ensures .1)
 
 pub zero-classes-spec : {M : Type 1} → statement M
 zero-classes-spec = tie.close (tie.spec settle-requires sort-requires same-length returns)

@@ -6,7 +6,7 @@ use native.Mathlib.Omega.{arith}
 use borrow.Author.Needs.{needs}
 use lib.ListN.{length, getD, drop, length-drop}
 use lib.Seq.{drop-cons, drop-length}
-use Rattle.theory.specs.inner.Polynomial.{taylor}
+use Rattle.theory.specs.Taylor.{taylor}
 use Rattle.solver.specs.inner.Table.{Residues}
 use Rattle.solver.proofs.Shift.{taylor-step}
 use Rattle.solver.proofs.taylor.taylor.Statement.{statement}

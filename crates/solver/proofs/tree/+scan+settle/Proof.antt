@@ -2,6 +2,7 @@
 use Rattle.solver.proofs.tree.+scan+settle.{statement}
 use Rattle.solver.proofs.tree.+scan+settle.Tie.{close}
 mod Calls
+mod Turn
 mod Scan
 mod Settle
 use Calls.{μ-scan, μ-settle}

@@ -1,5 +1,5 @@
 -- `solver::tree::put_whole` meets its contract.
-use mathlib.Core.Path.{_≡_, sym}
+use mathlib.Core.Path.{_≡_, refl, sym}
 use borrow.Author.Needs.{needs}
 use Rattle.theory.specs.Centered.{centered}
 use Rattle.theory.specs.SignedClass.{signedClass}
@@ -14,13 +14,15 @@ returns : tie.Need-returns
 returns c =
     let a = c .before .before in
     let x = a .args .node in
-    let number : c .code .result ≡ code (signedClass (centered (x .power) (x .residue)) (x .level)) = c .code .ensures in
-    λ S p q w. record {
-      added =
-          rw (tree-whole S p (x .left) w, own-class x p q, ← number)
-          (added-one (c .code .result) (a .args .k) (a .args .out .now) (a .pre .3));
-      is-whole = sym w;
-    }
+    let number : c .code .result ≡ code (signedClass (centered (x .power) (x .residue)) (x .level)) = c .code .ensures in (
+      (λ S p q w. record {
+        added =
+            rw (tree-whole S p (x .left) w, own-class x p q, ← number)
+            (added-one (c .code .result) (a .args .k) (a .args .out .now) (a .pre .3));
+        is-whole = sym w;
+      }),
+      refl,
+    )
 
 pub put-whole-spec : {M : Type 1} → statement M
 put-whole-spec =

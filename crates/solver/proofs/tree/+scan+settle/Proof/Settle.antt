@@ -20,6 +20,7 @@ use Rattle.solver.specs.declared.tree.PrimePower.{PrimePower}
 use Rattle.solver.specs.declared.tree.Node.{Node}
 use Rattle.solver.specs.inner.Recursion.{AtNode}
 use Rattle.solver.proofs.Node.{class-fits}
+use Rattle.solver.proofs.Counting.{counted-finished, counted-last}
 use Rattle.solver.proofs.Settling.{zero-whole, last-whole, last-none, whole-room, first-entry, valuation-lt, power-fits}
 use Rattle.solver.proofs.Settling.{lowered, Quotient, quotient}
 use Rattle.solver.proofs.tree.settle.Reads as reads
@@ -77,8 +78,11 @@ module _ (t : ℕ) where
 
   -- Where all coefficients are zero
 
+  none-left : (c : lts.Then1 calls at reads.Post) → allZero (f (call (c .before))) ≡ true
+  none-left c = sym (c .before .all-zero .ensures) ∙ c .if1 .taken
+
   all-whole : (c : lts.Then1 calls at reads.Post) → Whole (call (c .before))
-  all-whole c = zero-whole (N (call (c .before))) (sym (c .before .all-zero .ensures) ∙ c .if1 .taken)
+  all-whole c = zero-whole (N (call (c .before))) (none-left c)
 
   put-whole-requires : lts.Need-put-whole-requires calls at reads.Post
   put-whole-requires c κs = ready (call (c .before .before)) (all-whole (c .before))
@@ -90,7 +94,10 @@ module _ (t : ℕ) where
   returns c =
       let put = c .before .before in
       let then = put .before .before in
-      put .put-whole .ensures _ _ (N (call (then .before)) .node .power-is) (all-whole then)
+      let n = N (call (then .before)) in (
+        put .put-whole .ensures .0 _ _ (n .node .power-is) (all-whole then),
+        put .put-whole .ensures .1 ∙ sym (counted-finished n (none-left then)),
+      )
 
   -- Where some is not, and no level is left
 
@@ -125,12 +132,17 @@ module _ (t : ℕ) where
   returns-2 c =
       let put = c .before .before in
       let then = put .before .before in
-      put .put-whole2 .ensures _ _ (N (last-call (then .before)) .node .power-is) (root then)
+      let n = N (last-call (then .before)) in (
+        put .put-whole2 .ensures .0 _ _ (n .node .power-is) (root then),
+        put .put-whole2 .ensures .1 ∙ sym (counted-last n (then .before .if2 .taken)),
+      )
 
   returns-3 : lts.Need-returns-3 calls at reads.Post
   returns-3 c =
-      let a = last-call (c .before) in
-      last-none (N a) (a .args .k) (a .args .out .now) (c .before .if2 .taken) (last (c .before) ∙ ne-eqb _ 0 (c .if3 .left))
+      let a = last-call (c .before) in (
+        last-none (N a) (a .args .k) 1 (a .args .out .now) (c .before .if2 .taken) (last (c .before) ∙ ne-eqb _ 0 (c .if3 .left)),
+        sym (counted-last (N a) (c .before .if2 .taken)),
+      )
 
   -- Else the coefficients are divided by p^s, and the digits are scanned
 
@@ -236,7 +248,10 @@ module _ (t : ℕ) where
   returns-4 : lts.Need-returns-4 calls at reads.Post
   returns-4 c =
       let scanned = c .before .before in
-      rw (divided-is (scanned .before .before .before .before .before .before) .same-zeros) (scanned .scan .ensures)
+      let d = divided-is (scanned .before .before .before .before .before .before) in (
+        rw (d .same-zeros) (scanned .scan .ensures .0),
+        scanned .scan .ensures .1 ∙ sym (d .same-live),
+      )
 
   pub settle-closed : {M : Type 1} → lts.Closed calls at reads.Post M
   settle-closed =

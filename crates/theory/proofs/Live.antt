@@ -1,0 +1,6 @@
+-- Laws of live classes (02, 2.8).
+pub mod Sums
+pub mod Digits
+pub mod Carried
+pub mod Bound
+pub mod Classes
