@@ -8,12 +8,12 @@ use native.Mathlib.Nat.{mul-le-mul-right, mul-zero}
 use lib.ListN.{length, getD, take}
 use Rattle.theory.specs.Taylor.{taylor, shifted}
 use Rattle.theory.specs.Degree.{allZero}
-use Rattle.theory.specs.Live.{total, liveOf}
+use Rattle.theory.specs.Live.{sumOver, liveOf}
 use Rattle.theory.specs.inner.Polynomial.{coef}
 use Rattle.theory.proofs.Polynomials.Arithmetic.{coef-stretch}
 use Rattle.theory.proofs.Polynomials.Taylor.{taylor-beyond}
 use Rattle.theory.proofs.Polynomials.Highest.{all-zero-coef}
-use Rattle.theory.proofs.Live.Sums.{total-next, total-most}
+use Rattle.theory.proofs.Sums.{sum-over-next, sum-over-most}
 use Rattle.theory.proofs.Live.Carried.{live-last, live-finished, live-scan}
 use Rattle.theory.proofs.Live.Bound.{live-few}
 use Rattle.solver.specs.declared.tree.PrimePower.{PrimePower}
@@ -40,17 +40,17 @@ below f M x c = liveOf (shifted c (M .p) f) (M .p) (M .exponent) (x .left - 1)
 
 -- after these digits
 abbrev pub counted : List ℕ → PrimePower → Node → List ℕ → ℕ
-counted f M x digits = suc (total (below f M x) digits)
+counted f M x digits = suc (sumOver (below f M x) digits)
 
 -- after none
 pub counted-none : (f : List ℕ) (M : PrimePower) (x : Node) → 1 ≡ counted f M x []
-unfolding total
+unfolding sumOver
 counted-none f M x = refl
 
 module _ {f : List ℕ} {M : PrimePower} {x : Node} (P : Primitive f M x) where
   pub counted-next : (digits : List ℕ) (i : ℕ) {live child : ℕ} → i < length digits → live ≡ counted f M x (take i digits)
       → child ≡ below f M x (getD digits i 0) → live + child ≡ counted f M x (take (i + 1) digits)
-  counted-next digits i h s t = omega (arith, s, t, total-next (below f M x) digits i h)
+  counted-next digits i h s t = omega (arith, s, t, sum-over-next (below f M x) digits i h)
 
   -- after all at which f vanishes, it is the number for f
   pub counted-all : counted f M x (zeroDigits (M .p) f) ≡ liveOf f (M .p) (M .exponent) (x .left)
@@ -76,4 +76,4 @@ module _ {f : List ℕ} {M : PrimePower} {x : Node} (P : Primitive f M x) where
 
   pub counted-few : (digits : List ℕ) → length digits ≤ 64 → counted f M x digits ≤ 127041
   counted-few digits h =
-      omega (arith, total-most (below f M x) 1985 digits below-few, mul-le-mul-right 1985 h)
+      omega (arith, sum-over-most (below f M x) 1985 digits below-few, mul-le-mul-right 1985 h)

@@ -32,7 +32,7 @@ fn check_polynomial(coefficients: &[i64], p: u32, n: u32) -> Modulus
 }
 
 pub enum Solved {
-    // the number of classes, which are the first entries of the lists, the number of roots, and the number of live classes
+    // the number of classes, which are the first entries of the lists, the number of roots, and the number of live classes (02, 2.8)
     Found {
         classes: usize,
         roots: u64,

@@ -38,11 +38,13 @@ fn zero_classes(row: [u32; 65], c: usize, p: u32, n: u32, m: u64, codes: &mut [u
         left: n as u64,
     };
     let settled = tree::settle(row, c, over, everything, codes, 0);
-    sort::sort(codes, settled.k);
+    let k = settled.k;
+    sort::sort(codes, k);
     settled
 }
 
-// The classes, their marks, the root count and the number of live classes for the first c coefficients of the row. Rules 6 and 11; a refusal alters nothing.
+// The classes, their marks, the root count and the number of live classes for the first c coefficients of the row. Rules 6 and 11; a
+// refusal alters nothing.
 pub(crate) fn solve_reduced(
     row: [u32; 65],
     c: usize,

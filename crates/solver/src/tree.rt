@@ -41,7 +41,7 @@ pub(crate) struct Settled {
     pub(crate) live: u64,
 }
 
-// Puts the node's class, which is whole, after the first k.
+// Puts the node's class, which is whole, after the first k; so many classes were live.
 fn put_whole(node: Node, live: u64, out: &mut [u64], k: usize) -> Settled
     requires { ⌜ (node .residue < node .power) × (node .power ≤ 4294967295) × (node .level < 256) × (k < length (now out)) ⌝ }
     ensures classes { λ r. ⌜ ((S : ℕ → Bool) (p : ℕ) → node .power ≡ p ^ node .level → allBelow S (p ^ node .left) ≡ true
@@ -109,7 +109,7 @@ pub(crate) fn settle(
     scan(&g[..len], rest, node, out, k)
 }
 
-// The same by the p classes one level below. Only a digit at which h vanishes modulo p can have a zero below it.
+// The same by the p classes one level below. Only a digit at which h vanishes modulo p can have a zero below it, and its class is live.
 fn scan(h: &[u32], over: PrimePower, node: Node, out: &mut [u64], k: usize) -> Settled
     requires { ⌜ Primitive (now h) over node × (k + degreeModulo (over .p) (now h) ≤ length (now out)) ⌝ }
     ensures classes { λ r. ⌜ Done (zerosOf (now (h .entry)) (over .p) (over .exponent)) (over .p) node k r

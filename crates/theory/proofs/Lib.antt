@@ -1,10 +1,12 @@
--- What is proved of the definitions. General laws first, then those of classes, polynomials, maps, stepping and residues of least size.
+-- What is proved of the definitions. General laws first, then those of classes, polynomials, marks, live classes, maps, stepping and residues
+-- of least size.
 pub mod Tests
 pub mod Lists
 pub mod Numbers
 pub mod Range
 pub mod Passing
 pub mod Least
+pub mod Sums
 pub mod Classes
 pub mod Polynomials
 pub mod Mark

@@ -1,5 +1,4 @@
 -- Laws of live classes (02, 2.8).
-pub mod Sums
 pub mod Digits
 pub mod Carried
 pub mod Bound

@@ -31,21 +31,21 @@ pub data Live (f : List ℕ) (p n : ℕ) : Class → Type 0 where
   child-live : (d : Class) (c : ℕ) → Live f p n d → In c (liveDigits p (classPolynomial f p n d)) → Live f p n (childAt p d c)
 
 -- f at each entry, added up
-unfoldable pub total : (ℕ → ℕ) → List ℕ → ℕ
-total f [] = 0
-total f (a ∷ l) = f a + total f l
+unfoldable pub sumOver : (ℕ → ℕ) → List ℕ → ℕ
+sumOver f [] = 0
+sumOver f (a ∷ l) = f a + sumOver f l
 
 -- how many classes are live where d is: d itself and those below it, down to so many levels
 unfoldable pub liveFrom : List ℕ → ℕ → ℕ → (levels : ℕ) → Class → ℕ
-unfolding classPolynomial liveDigits total
+unfolding classPolynomial liveDigits sumOver
 liveFrom f p n zero d = 1
-liveFrom f p n (suc levels) d = suc (total (λ c. liveFrom f p n levels (childAt p d c)) (liveDigits p (classPolynomial f p n d)))
+liveFrom f p n (suc levels) d = suc (sumOver (λ c. liveFrom f p n levels (childAt p d c)) (liveDigits p (classPolynomial f p n d)))
 
 -- from everything down, for coefficients that are reduced
 abbrev pub liveOf : List ℕ → ℕ → ℕ → (levels : ℕ) → ℕ
 liveOf w p n levels = liveFrom w p n levels (class 0 0)
 
--- "the number of live classes": those of all levels, by `live-counted`, as none is below level n
+-- "the number of live classes": n levels hold them all, by the theorem `live-counted`
 unfoldable pub live : List ℤ → ℕ → ℕ → ℕ
 unfolding reduced liveFrom
 live f p n = liveOf (reduced f p n) p n n

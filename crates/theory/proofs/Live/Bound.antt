@@ -1,33 +1,32 @@
 -- "never above 1 + n × D; it is 1 if all coefficients reduce to zero" (02, 2.8).
-use mathlib.Core.Path.{_≡_, refl, sym, ap, _∙_}
+use mathlib.Core.Path.{_≡_, refl, _∙_}
 use mathlib.Core.Logic.{_⊎_, inl, inr}
 use mathlib.Core.Bool.{Bool, true, false}
 use mathlib.Core.List.{List, [], map}
 use Prim.Native.Nat.{ℕ, zero, suc, _+_, _-_, _*_, _/_, _%_, _^_, _≤_, _<_, _∣_}
 use native.Mathlib.Omega.{arith}
-use native.Mathlib.Nat.{dvd-trans, dvd-zero, add-zero, div-add-mod', mod-lt, div-lt-iff-lt-mul, mul-le-mul-left}
+use native.Mathlib.Nat.{dvd-trans, dvd-zero, div-add-mod', mod-lt, div-lt-iff-lt-mul, mul-le-mul-left}
 use native.Mathlib.Nat.{pow-zero, one-dvd, mod-eq-zero-of-dvd}
 use native.Mathlib.Decide.{decLe, decLt}
 use lib.IntN.{ℤ}
 use Rattle.theory.specs.Prime.{Prime}
-use Rattle.theory.specs.Polynomial.{value, vanishes, reduced}
+use Rattle.theory.specs.Polynomial.{vanishes, reduced}
 use Rattle.theory.specs.Taylor.{taylor, shifted}
 use Rattle.theory.specs.Degree.{leastValuation, degreeBound, allZero, primitive}
 use Rattle.theory.specs.Live.{liveOf, live}
 use Rattle.theory.specs.inner.Polynomial.{coef, Degree}
 use Rattle.theory.proofs.Lists.Map.{in-map}
 use Rattle.theory.proofs.Numbers.Power.{pow-pos, pow-dvd}
-use Rattle.theory.proofs.Numbers.Prime.{prime-pos, divides-dvd}
+use Rattle.theory.proofs.Numbers.Prime.{prime-pos}
 use Rattle.theory.proofs.Numbers.Congruence.{Congruent, cong-sym, cong-trans, cong-of-eq, cong-mod, cong-down, dvd-cong}
-use Rattle.theory.proofs.Polynomials.Arithmetic.{coef-modulo, value-zero}
-use Rattle.theory.proofs.Polynomials.Taylor.{value-taylor}
+use Rattle.theory.proofs.Polynomials.Arithmetic.{coef-modulo}
 use Rattle.theory.proofs.Polynomials.Congruence.{degree-same}
 use Rattle.theory.proofs.Polynomials.Highest.{all-zero-coef}
 use Rattle.theory.proofs.Polynomials.Degree.{least-valuation-dvd, degree-bound-degree, degree-bound-least, least-valuation-lt}
-use Rattle.theory.proofs.Polynomials.Orders.{sumFrom, orders-at-most-degree}
+use Rattle.theory.proofs.Polynomials.Orders.{orders-at-most-degree, zeros-at-most}
 use Rattle.theory.proofs.Polynomials.Bound.{degree?, degree-shifted}
 use Rattle.theory.proofs.Polynomials.Primitive.{primitive-degree}
-use Rattle.theory.proofs.Live.Sums.{where-passes, total-passing}
+use Rattle.theory.proofs.Sums.{sumFrom, where-passes, sum-over-passing}
 use Rattle.theory.proofs.Live.Carried.{live-last, live-finished, live-same, live-divided, live-scan}
 
 -- x / (l + 1), rounded up
@@ -66,17 +65,10 @@ module _ (p : ℕ) (P : Prime p) where
 
     -- are at most l + 1 times the order of h there
     below-order : (c i : ℕ) → ¬ (p ∣ coef (taylor c h) i) → below c ≤ suc l * i
-    unfolding below where-passes vanishes
-    below-order c i w = go (vanishes p h c) refl i w
-      where
-        first : coef (taylor c h) 0 ≡ value h c
-        first = sym (value-zero (taylor c h)) ∙ value-taylor c h 0 ∙ ap (value h) (add-zero c)
-
-        go : (b : Bool) → vanishes p h c ≡ b → (j : ℕ) → ¬ (p ∣ coef (taylor c h) j)
-            → where-passes b (liveOf (shifted c p h) p e l) ≤ suc l * j
-        go true q zero u = absurd (u (rw first (divides-dvd p (value h c) q)))
-        go true q (suc j) u = omega (arith, ih (suc j) e (shifted c p h) (suc j) (degree-shifted p P h c (suc j) u))
-        go false q j u = omega arith
+    unfolding below
+    below-order c i w =
+        zeros-at-most p h c (liveOf (shifted c p h) p e l) (suc l)
+        (λ j u. omega (arith, ih (suc j) e (shifted c p h) (suc j) (degree-shifted p P h c (suc j) u))) i w
 
     scan-bound : liveOf h p e (suc l) ≤ 1 + suc l * d
     unfolding below
@@ -86,7 +78,7 @@ module _ (p : ℕ) (P : Prime p) where
         omega (
           arith,
           live-scan p (P .two) e l h d pos (D .lead),
-          total-passing (vanishes p h) (λ c. liveOf (shifted c p h) p e l) p 0,
+          sum-over-passing (vanishes p h) (λ c. liveOf (shifted c p h) p e l) p 0,
           portion-sum l below p 0,
           mul-le-mul-left (suc l) orders,
         )
@@ -107,7 +99,9 @@ module _ (p : ℕ) (P : Prime p) where
       where
         -- above d nothing is left where p^e divides p^(k + 1)
         none : e ≤ k → (i : ℕ) → d < i → coef R i ≡ 0
-        none l i u = coef-modulo (p ^ e) g i ∙ mod-eq-zero-of-dvd (p ^ e) (dvd-trans (p ^ e) (pow-dvd p {n = suc k} (omega arith)) (D .above i u))
+        none l i u =
+            coef-modulo (p ^ e) g i
+            ∙ mod-eq-zero-of-dvd (p ^ e) (dvd-trans (p ^ e) (pow-dvd p {n = suc k} (omega arith)) (D .above i u))
 
         go : Dec (suc k ≤ e) → Dec (degreeBound p R ≤ d) → degreeBound p R ≤ d
         go l (yes u) = u

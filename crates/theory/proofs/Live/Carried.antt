@@ -11,7 +11,7 @@ use Rattle.theory.specs.Polynomial.{vanishes, divided}
 use Rattle.theory.specs.Taylor.{scale, shifted}
 use Rattle.theory.specs.Degree.{primitive}
 use Rattle.theory.specs.Class.{Class, class}
-use Rattle.theory.specs.Live.{classPolynomial, liveDigits, childAt, total, liveFrom, liveOf}
+use Rattle.theory.specs.Live.{classPolynomial, liveDigits, childAt, sumOver, liveFrom, liveOf}
 use Rattle.theory.specs.inner.Polynomial.{coef}
 use Rattle.theory.proofs.Numbers.Power.{pow-pos, pow-dvd, pow-one}
 use Rattle.theory.proofs.Numbers.Congruence.{Congruent, cong-refl, cong-trans, cong-of-eq, cong-mod, cong-down, cong-dvd, mod-times}
@@ -93,7 +93,7 @@ module _ (p : ℕ) (two : 2 ≤ p) where
   unfolding liveFrom classPolynomial
   live-alike f g zero d d′ K = refl
   live-alike {n} {v} {e} f g (suc l) d d′ K =
-      ap suc (ap₂ total
+      ap suc (ap₂ sumOver
       (fun-ext (λ c. live-alike f g l (childAt p d c) (childAt p d′ c)
       (carries-from (at-child f d c) (λ i. sym (at-child g d′ c i)) (carries-shifted c p K))))
       (scaled-digits p two v (modulo n (at f d)) (modulo e (at g d′)) (carries-modulo K)))
@@ -123,7 +123,7 @@ module _ (p : ℕ) (two : 2 ≤ p) where
   pub live-finished : (e l : ℕ) (g : List ℕ) → ((i : ℕ) → coef g i ≡ 0) → liveOf g p e l ≡ 1
   unfolding liveFrom classPolynomial
   live-finished e zero g z = refl
-  live-finished e (suc l) g z = ap suc (ap (total (λ c. liveFrom g p e l (childAt p (class 0 0) c))) none)
+  live-finished e (suc l) g z = ap suc (ap (sumOver (λ c. liveFrom g p e l (childAt p (class 0 0) c))) none)
     where
       none : liveDigits p (classPolynomial g p e (class 0 0)) ≡ []
       none =
@@ -133,9 +133,9 @@ module _ (p : ℕ) (two : 2 ≤ p) where
 
   -- where p does not divide all of h: 1, and the sum over the digits at which h vanishes modulo p
   pub live-scan : (e l : ℕ) (h : List ℕ) (j : ℕ) → 0 < e → ¬ (p ∣ coef h j)
-      → liveOf h p e (suc l) ≡ suc (total (λ c. liveOf (shifted c p h) p e l) (passing (vanishes p h) p 0))
+      → liveOf h p e (suc l) ≡ suc (sumOver (λ c. liveOf (shifted c p h) p e l) (passing (vanishes p h) p 0))
   unfolding liveFrom classPolynomial
-  live-scan e l h j pos none = ap suc (ap₂ total (fun-ext child) digits)
+  live-scan e l h j pos none = ap suc (ap₂ sumOver (fun-ext child) digits)
     where
       H : List ℕ
       H = modulo e (at h (class 0 0))

@@ -11,7 +11,7 @@ use Rattle.theory.specs.Lists.{In, here, there}
 use Rattle.theory.specs.Prime.{Prime}
 use Rattle.theory.specs.Polynomial.{reduced}
 use Rattle.theory.specs.Class.{Class, class}
-use Rattle.theory.specs.Live.{classPolynomial, liveDigits, childAt, Live, everything-live, child-live, total, liveFrom, live}
+use Rattle.theory.specs.Live.{classPolynomial, liveDigits, childAt, Live, everything-live, child-live, sumOver, liveFrom, live}
 use Rattle.theory.proofs.Lists.Names.{in-cons, in-nil, in-single}
 use Rattle.theory.proofs.Lists.NoRepeat.{NoRepeat}
 use Rattle.theory.proofs.Numbers.Power.{pow-pos, pow-dvd}
@@ -20,8 +20,8 @@ use Rattle.theory.proofs.Classes.Concat.{flat, in-flat, flat-in, no-rep
 use Rattle.theory.proofs.Classes.Digit.{digit-lt, digit-mod}
 use Rattle.theory.proofs.Live.Digits.{digits-lt, digits-no-repeat, no-digits}
 
-flat-length : (f : ℕ → List Class) (l : List ℕ) → length (flat f l) ≡ total (λ c. length (f c)) l
-unfolding flat total
+flat-length : (f : ℕ → List Class) (l : List ℕ) → length (flat f l) ≡ sumOver (λ c. length (f c)) l
+unfolding flat sumOver
 flat-length f [] = refl
 flat-length f (x ∷ l) = length-append (f x) (flat f l) ∙ ap (λ (k : ℕ). length (f x) + k) (flat-length f l)
 
@@ -44,7 +44,7 @@ module _ (f : List ℕ) (p n : ℕ) where
   length-is zero d = refl
   length-is (suc levels) d =
       ap suc (flat-length (childrenOf levels d) (digitsAt d)
-      ∙ ap (λ (h : ℕ → ℕ). total h (digitsAt d)) (fun-ext (λ c. length-is levels (childAt p d c))))
+      ∙ ap (λ (h : ℕ → ℕ). sumOver h (digitsAt d)) (fun-ext (λ c. length-is levels (childAt p d c))))
 
   -- d comes first
   first : (levels : ℕ) (d : Class) → In d (liveBelow f p n levels d)

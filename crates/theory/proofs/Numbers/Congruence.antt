@@ -75,8 +75,3 @@ pub mod-times : (k x m : ℕ) → 0 < k → 0 < m → k * x % (k * m) ≡ k * (x
 mod-times k x m hk hm =
     let s : k * x ≡ x / m * (k * m) + k * (x % m) = omega (arith, ap (λ (z : ℕ). k * z) (div-add-mod' x m)) in
     ap (λ (z : ℕ). z % (k * m)) s ∙ digits-mod (x / m) (mul-lt-mul-of-pos-left (mod-lt x hm) hk)
-
--- a congruence times k, modulus included
-pub cong-times : {m x y : ℕ} (k : ℕ) → 0 < k → 0 < m → Congruent m x y → Congruent (k * m) (k * x) (k * y)
-cong-times {m} {x} {y} k hk hm e =
-    record { same = mod-times k x m hk hm ∙ ap (λ (z : ℕ). k * z) (e .same) ∙ sym (mod-times k y m hk hm) }

@@ -24,7 +24,8 @@ use Rattle.theory.specs.Taylor.{taylor, shifted}
 use Rattle.theory.specs.inner.Polynomial.{coef, Degree}
 use Rattle.theory.proofs.Polynomials.Arithmetic.{scale-divided, coef-scale, coef-stretch, value-zero}
 use Rattle.theory.proofs.Polynomials.Zeros.{zero-dvd, zeros-branch, zeros-divided, zeros-everything}
-use Rattle.theory.proofs.Polynomials.Orders.{AtMostOrder, sumFrom, sum-append, sum-same, orders-at-most-degree}
+use Rattle.theory.proofs.Sums.{sumFrom, sum-append, sum-same}
+use Rattle.theory.proofs.Polynomials.Orders.{AtMostOrder, orders-at-most-degree}
 
 -- Lengths of the tree's list
 

@@ -1,42 +1,35 @@
 -- The orders of a polynomial at the p digits: together at most its degree modulo p.
-use mathlib.Core.Path.{refl, ap₂, _≡_}
+use mathlib.Core.Path.{refl, _≡_}
+use mathlib.Core.Bool.{Bool, true, false}
 use mathlib.Core.List.{List}
-use Prim.Native.Nat.{ℕ, zero, suc, pred, _+_, _-_, _≤_, _<_, _∣_}
+use Prim.Native.Nat.{ℕ, zero, suc, pred, _+_, _-_, _*_, _≤_, _<_, _∣_}
 use native.Mathlib.Nat.{dvd-add-iff-right, add-zero}
 use native.Mathlib.Decide.{decDvd}
 use native.Mathlib.Omega.{arith}
-use Rattle.theory.specs.Polynomial.{value}
+use Rattle.theory.specs.Polynomial.{value, vanishes}
 use Rattle.theory.specs.Prime.{Prime}
+use Rattle.theory.proofs.Numbers.Prime.{divides-dvd}
 use Rattle.theory.proofs.Numbers.Euclid.{digit-times}
+use Rattle.theory.proofs.Sums.{sumFrom, where-passes}
+use Rattle.theory.proofs.Polynomials.Taylor.{taylor-constant}
 use Rattle.theory.specs.Taylor.{taylor}
 use Rattle.theory.specs.inner.Polynomial.{coef, Degree}
 use Rattle.theory.proofs.Polynomials.Quotient.{quotient, quotient-zero, quotient-suc, quotient-degree, constant-no-zero}
 
--- f c + f (c + 1) + …, k of them
-unfoldable pub sumFrom : (ℕ → ℕ) → ℕ → ℕ → ℕ
-sumFrom f c zero = 0
-sumFrom f c (suc k) = f c + sumFrom f (suc c) k
-
-pub sum-append : (f : ℕ → ℕ) (j k c : ℕ) → sumFrom f c (j + k) ≡ sumFrom f c j + sumFrom f (c + j) k
-unfolding sumFrom
-sum-append f zero k c =
-    let e : 0 + k ≡ k = omega arith in
-    let z : c + 0 ≡ c = omega arith in
-    rw (e, z) (omega arith)
-sum-append f (suc j) k c =
-    let e : suc j + k ≡ suc (j + k) = omega arith in
-    let z : suc c + j ≡ c + suc j = omega arith in
-    rw (e, ← z) (omega (arith, sum-append f j k (suc c)))
-
-pub sum-same : (f g : ℕ → ℕ) (k c : ℕ) → ((x : ℕ) → c ≤ x → x < c + k → f x ≡ g x) → sumFrom f c k ≡ sumFrom g c k
-unfolding sumFrom
-sum-same f g zero c h = refl
-sum-same f g (suc k) c h =
-    ap₂ (λ (x y : ℕ). x + y) (h c (omega arith) (omega arith)) (sum-same f g k (suc c) (λ x l b. h x (omega arith) (omega arith)))
-
 -- n is at most the index of each coefficient of f that p does not divide, so at most the order of f modulo p
 abbrev pub AtMostOrder : ℕ → ℕ → List ℕ → Type 0
 AtMostOrder p n f = (i : ℕ) → ¬ (p ∣ coef f i) → n ≤ i
+
+-- what is counted at a zero alone is at most m times each such index, if it is so for the indices above 0
+pub zeros-at-most : (p : ℕ) (f : List ℕ) (c x m : ℕ) → ((j : ℕ) → ¬ (p ∣ coef (taylor c f) (suc j)) → x ≤ m * suc j)
+    → (i : ℕ) → ¬ (p ∣ coef (taylor c f) i) → where-passes (vanishes p f c) x ≤ m * i
+unfolding where-passes vanishes
+zeros-at-most p f c x m above i h = go (vanishes p f c) refl i h
+  where
+    go : (b : Bool) → vanishes p f c ≡ b → (i : ℕ) → ¬ (p ∣ coef (taylor c f) i) → where-passes b x ≤ m * i
+    go true e zero w = absurd (w (rw (taylor-constant c f) (divides-dvd p (value f c) e)))
+    go true e (suc j) w = above j w
+    go false e j w = omega arith
 
 module _ (p : ℕ) (P : Prime p) where
   -- away from the zero c, the quotient has the order of f
@@ -63,8 +56,7 @@ module _ (p : ℕ) (P : Prime p) where
   -- where c is no zero, it is 0
   order-none : (c n : ℕ) (f : List ℕ) → AtMostOrder p n (taylor c f) → ¬ (p ∣ value f c) → n ≡ 0
   order-none c n f b w =
-      let e : coef (taylor c f) 0 ≡ value f c = omega (arith, rw (add-zero c) at (quotient-zero c 0 f)) in
-      omega (arith, b 0 (λ u. w (rw e at u)))
+      omega (arith, b 0 (λ u. w (rw (taylor-constant c f) at u)))
 
   module _ (t : ℕ → ℕ) where
     -- t is at most the order at the digits after c, up to c + j

@@ -45,11 +45,11 @@ module _ (p : ℕ) (two : 2 ≤ p) (f : List ℕ) where
             (subst (λ (x : ℕ). p ^ s * p ∣ x) (sym (primitive-times i)) (rw (pow-suc p s) at (D .above i l)));
       }
 
--- s is the exponent of the power of p that divides all coefficients while the next does not
 module _ (p : ℕ) (two : 2 ≤ p) where
   hp : 0 < p
   hp = omega arith
 
+  -- s is the exponent of the power of p that divides all coefficients while the next does not
   pub valuation-is : (f : List ℕ) (v j : ℕ) → ((i : ℕ) → p ^ v ∣ coef f i) → ¬ (p ^ suc v ∣ coef f j) → leastValuation p f ≡ v
   valuation-is f v j all none = go (decLt (leastValuation p f) v) (decLt v (leastValuation p f))
     where

@@ -1,19 +1,24 @@
 -- Taylor's expansion, as an exact equation of values.
-use mathlib.Core.Path.{_≡_, refl, _∙_}
+use mathlib.Core.Path.{_≡_, refl, sym, ap, _∙_}
 use mathlib.Core.List.{List, [], _∷_}
 use Prim.Native.Nat.{ℕ, suc, _+_, _*_, _≤_}
+use native.Mathlib.Nat.{add-zero}
 use native.Mathlib.Omega.{arith}
 use lib.ListN.{length}
 use Rattle.theory.specs.Polynomial.{value}
 use Rattle.theory.specs.Taylor.{scale, taylor, shifted}
 use Rattle.theory.specs.inner.Polynomial.{coef}
-use Rattle.theory.proofs.Polynomials.Arithmetic.{value-plus, value-scale, value-stretch, coef-plus, coef-scale}
+use Rattle.theory.proofs.Polynomials.Arithmetic.{value-plus, value-scale, value-stretch, value-zero, coef-plus, coef-scale}
 
 pub value-taylor : (c : ℕ) (f : List ℕ) (y : ℕ) → value (taylor c f) y ≡ value f (c + y)
 unfolding value taylor
 value-taylor c [] y = refl
 value-taylor c (a ∷ f) y =
     value-plus (a ∷ taylor c f) (scale c (taylor c f)) y ∙ rw (value-scale c (taylor c f) y, value-taylor c f y) (omega arith)
+
+-- the constant coefficient is the value at c
+pub taylor-constant : (c : ℕ) (f : List ℕ) → coef (taylor c f) 0 ≡ value f c
+taylor-constant c f = sym (value-zero (taylor c f)) ∙ value-taylor c f 0 ∙ ap (value f) (add-zero c)
 
 pub coef-taylor : (c a : ℕ) (f : List ℕ) (i : ℕ)
     → coef (taylor c (a ∷ f)) i ≡ coef (a ∷ taylor c f) i + c * coef (taylor c f) i
