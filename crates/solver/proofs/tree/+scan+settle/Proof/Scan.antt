@@ -82,11 +82,12 @@ module _ (t : ℕ) where
   returns c =
       let put = c .before .before in
       let then = put .before .before in
-      let s = then .before .before .before in (
+      let s = then .before .before .before in
+      let number : put .put-whole .result .live ≡ end s .loop .live = put .put-whole .ensures .1 in (
         scanned-put (ended s) (omega (arith, call t (end s) .pre .1 .1))
             (put .put-whole .ensures .0 _ _ (P t (end s) .at .node .power-is)
             (whole-is s ∙ and-intro _ _ (then .before .before .if2 .taken) (then .if3 .taken))),
-        put .put-whole .ensures .1 ∙ live-is s,
+        number ∙ live-is s,
       )
 
   same-length-2 : lts.Need-same-length-2 calls at reads.Post Inv-loop μ-loop
