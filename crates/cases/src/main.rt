@@ -65,8 +65,8 @@ fn answer_to(
     let levels = l.levels;
     let marks = l.marks;
     match operation {
-        b's' => solving::solve(f, given.count, call, slots, expected),
-        b'l' => solving::live(f, given.count, call, slots),
+        b's' => solving::solve(operation, f, given.count, call, slots, expected),
+        b'l' => solving::solve(operation, f, given.count, call, slots, expected),
         b't' => solving::test(f, given.count, call),
         b'r' => steps::steps(f, given.count, call, expected),
         b'n' => next::next(residues, levels, call),

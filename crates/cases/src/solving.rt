@@ -18,8 +18,34 @@ fn slots(row: Row, i: usize) -> usize {
     }
 }
 
+// What is asked of an accepted call: with the letter l the number of live classes, else k and the root count, and whether the lists are the
+// expected ones.
+fn found(operation: u8, classes: usize, roots: u64, live: u64, same: bool) -> Answer {
+    if operation == b'l' {
+        return Answer {
+            letter: b'#',
+            first: live,
+            second: 0,
+            same: true,
+        };
+    }
+    Answer {
+        letter: b'k',
+        first: classes as u64,
+        second: roots,
+        same,
+    }
+}
+
 // The solver's answer. Every slot holds 77 before the call.
-pub(crate) fn solve(f: [i64; 256], c: usize, call: Call, given: Row, expected: Row) -> Answer {
+pub(crate) fn solve(
+    operation: u8,
+    f: [i64; 256],
+    c: usize,
+    call: Call,
+    given: Row,
+    expected: Row,
+) -> Answer {
     let mut residues = [77i32; 66];
     let mut levels = [77u8; 66];
     let mut marks = [77u8; 66];
@@ -34,41 +60,12 @@ pub(crate) fn solve(f: [i64; 256], c: usize, call: Call, given: Row, expected: R
         Solved::Found {
             classes,
             roots,
-            live: _,
-        } => Answer {
-            letter: b'k',
-            first: classes as u64,
-            second: roots,
-            same: same(residues, levels, marks, classes, expected),
-        },
-        Solved::Refused(r) => answer::refused(r, same(residues, levels, marks, 0, expected)),
-    }
-}
-
-// The number of live classes.
-pub(crate) fn live(f: [i64; 256], c: usize, call: Call, given: Row) -> Answer {
-    let mut residues = [0i32; 66];
-    let mut levels = [0u8; 66];
-    let mut marks = [0u8; 66];
-    match solver::solve(
-        prefix::coefficients(&f, c),
-        call.p,
-        call.n,
-        words_mut(&mut residues, slots(given, 0)),
-        bytes_mut(&mut levels, slots(given, 1)),
-        bytes_mut(&mut marks, slots(given, 2)),
-    ) {
-        Solved::Found {
-            classes: _,
-            roots: _,
             live,
-        } => Answer {
-            letter: b'#',
-            first: live,
-            second: 0,
-            same: true,
-        },
-        Solved::Refused(r) => answer::refused(r, true),
+        } => {
+            let same = same(residues, levels, marks, classes, expected);
+            found(operation, classes, roots, live, same)
+        }
+        Solved::Refused(r) => answer::refused(r, same(residues, levels, marks, 0, expected)),
     }
 }
 

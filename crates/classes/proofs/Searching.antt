@@ -185,7 +185,8 @@ module _ (p n : ℕ) (L : List SignedClass) where
                 → searchedTo p L m m ≤ first
             pick (yes a) b = inner-found first j first h hj (omega arith) (omega arith) a e
             pick (no a) (yes b) =
-                inner-found j first first hj h (omega arith) (omega arith) b (share-comm p (natural p (signedSlot L j)) (natural p (signedSlot L first)) e)
+                inner-found j first first hj h (omega arith) (omega arith) b
+                (share-comm p (natural p (signedSlot L j)) (natural p (signedSlot L first)) e)
             pick (no a) (no b) =
                 let same : signedSlot L j .residue ≡ signedSlot L first .residue =
                 shared-equal p n hp (signedSlot L j) (signedSlot L first) (usable-class p n L j (usable-before p n L j hj))

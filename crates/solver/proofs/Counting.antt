@@ -2,7 +2,7 @@
 use mathlib.Core.Path.{_≡_, refl, sym, ap, _∙_}
 use mathlib.Core.Bool.{true}
 use mathlib.Core.List.{List, []}
-use Prim.Native.Nat.{ℕ, suc, _+_, _-_, _^_, _≤_, _<_}
+use Prim.Native.Nat.{ℕ, suc, _+_, _-_, _*_, _^_, _≤_, _<_}
 use native.Mathlib.Omega.{arith}
 use native.Mathlib.Nat.{mul-le-mul-right, mul-zero}
 use lib.ListN.{length, getD, take}
@@ -60,8 +60,8 @@ module _ {f : List ℕ} {M : PrimePower} {x : Node} (P : Primitive f M x) where
       sym (live-scan (M .p) (P .at .modulus .prime .two) (M .exponent) (x .left - 1) f (degreeModulo (M .p) f) (P .precise) lead)
       ∙ ap (liveOf f (M .p) (M .exponent)) left
 
-  -- these numbers are far below the end of a word
-  pub below-few : (c : ℕ) → below f M x c ≤ 1985
+  -- with at most 30 levels left and degree 64, 1 + 30·64
+  pub below-few : (c : ℕ) → below f M x c ≤ 1921
   below-few c =
       omega (
         arith,
@@ -74,6 +74,7 @@ module _ {f : List ℕ} {M : PrimePower} {x : Node} (P : Primitive f M x) where
           coef-stretch (M .p) (taylor c f) i
           ∙ rw (taylor-beyond c f i (omega (arith, P .at .short))) (mul-zero (M .p ^ i))
 
-  pub counted-few : (digits : List ℕ) → length digits ≤ 64 → counted f M x digits ≤ 127041
+  -- so the sum is far below the end of a word
+  pub counted-few : (digits : List ℕ) → length digits ≤ 64 → counted f M x digits ≤ 1 + 64 * 1921
   counted-few digits h =
-      omega (arith, sum-over-most (below f M x) 1985 digits below-few, mul-le-mul-right 1985 h)
+      omega (arith, sum-over-most (below f M x) 1921 digits below-few, mul-le-mul-right 1921 h)

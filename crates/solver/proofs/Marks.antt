@@ -20,6 +20,7 @@ use Rattle.theory.proofs.Numbers.Power.{pow-pos, pow-one, pow-dvd}
 use Rattle.theory.proofs.Numbers.Congruence.{Congruent}
 use Rattle.theory.proofs.Numbers.Reduction.{reduce-lt, reduce-down}
 use Rattle.theory.proofs.Polynomials.Derivative.{coef-derivative}
+use Rattle.theory.proofs.Polynomials.Congruence.{vanishes-same}
 use Rattle.theory.proofs.Polynomials.Highest.{all-zero-coef}
 use Rattle.theory.proofs.Classes.Periodic.{Periodic}
 use Rattle.theory.proofs.Mark.{mark-by-told, mark-constant, mark-mixed, mark-deep, mark-top, vanishes-periodic}
@@ -27,7 +28,7 @@ use Rattle.theory.proofs.Mark.{zero-vanishes, mark-over}
 use Rattle.solver.specs.inner.Table.{Residues}
 use Rattle.solver.specs.inner.Marks.{markAt, markOfDigits, markFrom}
 use Rattle.solver.proofs.Tables.{residues-same}
-use Rattle.solver.proofs.Zeros.{vanishes-on, vanishes-off, vanishes-same}
+use Rattle.solver.proofs.Zeros.{vanishes-on, vanishes-off}
 
 -- One value
 

@@ -1,12 +1,11 @@
 -- The zeros of a polynomial modulo p among the digits.
-use mathlib.Core.Path.{_≡_, sym, ap, _∙_, fun-ext}
+use mathlib.Core.Path.{_≡_, sym, ap, _∙_}
 use mathlib.Core.Bool.{true, false, not}
 use mathlib.Core.List.{List, [], _∷_, _++_}
 use Prim.Native.Nat.{ℕ, _+_, _%_, _≤_, _<_}
 use native.Mathlib.Nat.{dvd-zero, le-trans}
 use native.Mathlib.Omega.{arith}
 use borrow.Author.Tests.{not-false, not-true}
-use lib.Dec.{eqb}
 use lib.ListN.{length, take, set, length-append, length-set}
 use Rattle.theory.specs.Range.{passing}
 use Rattle.theory.specs.Prime.{divides, Prime}
@@ -17,8 +16,6 @@ use Rattle.theory.proofs.Tests.{contradiction}
 use Rattle.theory.proofs.Passing.{passing-shorter, passing-next-on, passing-next-off}
 use Rattle.theory.proofs.Lists.Fill.{take-set-next}
 use Rattle.theory.proofs.Numbers.Prime.{dvd-divides, divides-dvd, divides-on, divides-off}
-use Rattle.theory.proofs.Numbers.Congruence.{cong-sym, cong-dvd}
-use Rattle.theory.proofs.Polynomials.Congruence.{cong-coefficients, SameModulo}
 use Rattle.theory.proofs.Polynomials.Highest.{above-highest, highest-passes, highest-lt}
 use Rattle.theory.proofs.Polynomials.Lagrange.{lagrange}
 use Rattle.solver.specs.inner.Table.{prime-to, degreeModulo, nonzeroModulo}
@@ -86,15 +83,3 @@ degree-modulo p f e =
 pub degree-modulo-lt : (p : ℕ) (f : List ℕ) → nonzeroModulo p f ≡ true → degreeModulo p f < length f
 unfolding degreeModulo nonzeroModulo
 degree-modulo-lt p f e = highest-lt (prime-to p) f e
-
--- Coefficients that agree modulo p have the same degree and the same zeros
-
-pub degree-same : {p d : ℕ} {g f : List ℕ} → SameModulo p g f → Degree p f d → Degree p g d
-degree-same {d} same D = record {
-  lead = λ u. D .lead (cong-dvd (same d) u);
-  above = λ i l. cong-dvd (cong-sym (same i)) (D .above i l);
-}
-
-pub vanishes-same : {p : ℕ} (g f : List ℕ) → SameModulo p g f → vanishes p g ≡ vanishes p f
-unfolding vanishes divides
-vanishes-same g f same = fun-ext (λ c. ap (λ (z : ℕ). eqb z 0) (cong-coefficients g f c same .same))

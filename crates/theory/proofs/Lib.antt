@@ -1,5 +1,5 @@
--- What is proved of the definitions. General laws first, then those of classes, polynomials, marks, live classes, maps, stepping and residues
--- of least size.
+-- What is proved of the definitions. General laws first, then those of classes, polynomials, marks, live classes, maps, stepping and
+-- residues of least size.
 pub mod Tests
 pub mod Lists
 pub mod Numbers

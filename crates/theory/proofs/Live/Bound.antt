@@ -18,9 +18,9 @@ use Rattle.theory.specs.inner.Polynomial.{coef, Degree}
 use Rattle.theory.proofs.Lists.Map.{in-map}
 use Rattle.theory.proofs.Numbers.Power.{pow-pos, pow-dvd}
 use Rattle.theory.proofs.Numbers.Prime.{prime-pos}
-use Rattle.theory.proofs.Numbers.Congruence.{Congruent, cong-sym, cong-trans, cong-of-eq, cong-mod, cong-down, dvd-cong}
+use Rattle.theory.proofs.Numbers.Congruence.{cong-sym, cong-down, dvd-cong}
 use Rattle.theory.proofs.Polynomials.Arithmetic.{coef-modulo}
-use Rattle.theory.proofs.Polynomials.Congruence.{degree-same}
+use Rattle.theory.proofs.Polynomials.Congruence.{SameModulo, same-residues, degree-same}
 use Rattle.theory.proofs.Polynomials.Highest.{all-zero-coef}
 use Rattle.theory.proofs.Polynomials.Degree.{least-valuation-dvd, degree-bound-degree, degree-bound-least, least-valuation-lt}
 use Rattle.theory.proofs.Polynomials.Orders.{orders-at-most-degree, zeros-at-most}
@@ -89,9 +89,9 @@ module _ (p : ℕ) (P : Prime p) where
     R : List ℕ
     R = map (λ a. a % p ^ e) g
 
-    same : (i : ℕ) → Congruent (p ^ e) (coef R i) (coef g i)
+    same : SameModulo (p ^ e) R g
     unfolding R
-    same i = cong-trans (cong-of-eq (coef-modulo (p ^ e) g i)) (cong-mod (p ^ e) (coef g i))
+    same = same-residues (p ^ e) g
 
     degree-le : allZero R ≡ false → degreeBound p R ≤ d
     unfolding R

@@ -1,6 +1,7 @@
 -- Live classes may be counted on the polynomials that a recursion carries, divided by powers of p on the way: a power of p that all
 -- coefficients are multiplied by, the modulus included, does not change their number.
 use mathlib.Core.Path.{_≡_, refl, sym, ap, ap₂, _∙_, fun-ext}
+use mathlib.Core.Bool.{Bool}
 use mathlib.Core.List.{List, [], map}
 use Prim.Native.Nat.{ℕ, zero, suc, _+_, _*_, _%_, _^_, _≤_, _<_, _∣_}
 use native.Mathlib.Omega.{arith}
@@ -14,13 +15,13 @@ use Rattle.theory.specs.Class.{Class, class}
 use Rattle.theory.specs.Live.{classPolynomial, liveDigits, childAt, sumOver, liveFrom, liveOf}
 use Rattle.theory.specs.inner.Polynomial.{coef}
 use Rattle.theory.proofs.Numbers.Power.{pow-pos, pow-dvd, pow-one}
-use Rattle.theory.proofs.Numbers.Congruence.{Congruent, cong-refl, cong-trans, cong-of-eq, cong-mod, cong-down, cong-dvd, mod-times}
+use Rattle.theory.proofs.Numbers.Congruence.{Congruent, cong-refl, cong-trans, cong-of-eq, cong-down, cong-dvd, mod-times}
 use Rattle.theory.proofs.Polynomials.Arithmetic.{coef-scale, coef-divided, coef-modulo}
-use Rattle.theory.proofs.Polynomials.Congruence.{SameModulo}
+use Rattle.theory.proofs.Polynomials.Congruence.{SameModulo, same-residues, vanishes-same}
 use Rattle.theory.proofs.Polynomials.Shifts.{shifted-shifted, shifted-none, shifted-scale, shifted-cong}
 use Rattle.theory.proofs.Polynomials.Highest.{all-zero-intro, all-zero-fails}
 use Rattle.theory.proofs.Polynomials.Primitive.{primitive-same}
-use Rattle.theory.proofs.Live.Digits.{digits-finished, digits-open, same-digits, scaled-digits}
+use Rattle.theory.proofs.Live.Digits.{digits-finished, digits-open, scaled-digits}
 
 -- f is p^v·g modulo pⁿ, n = v + e, coefficient by coefficient
 record Carries (p n v e : ℕ) (f g : List ℕ) : Type 0 where
@@ -143,8 +144,7 @@ module _ (p : ℕ) (two : 2 ≤ p) where
       same : SameModulo p H h
       same i =
           cong-down (rw (pow-one p) at (pow-dvd p {t = 1} {n = e} pos))
-          (cong-trans (cong-of-eq (coef-modulo (p ^ e) (at h (class 0 0)) i ∙ ap (λ (x : ℕ). x % p ^ e) (at-everything h i)))
-          (cong-mod (p ^ e) (coef h i)))
+          (cong-trans (same-residues (p ^ e) (at h (class 0 0)) i) (cong-of-eq (at-everything h i)))
 
       stays : ¬ (p ∣ coef H j)
       stays d = none (cong-dvd (same j) d)
@@ -152,7 +152,8 @@ module _ (p : ℕ) (two : 2 ≤ p) where
       digits : liveDigits p H ≡ passing (vanishes p h) p 0
       digits =
           digits-open p H (all-zero-fails H j (λ z. stays (rw z (dvd-zero p))))
-          ∙ same-digits p (primitive p H) h (λ i. cong-trans (cong-of-eq (primitive-same p two H j stays i)) (same i))
+          ∙ ap (λ (test : ℕ → Bool). passing test p 0)
+          (vanishes-same (primitive p H) h (λ i. cong-trans (cong-of-eq (primitive-same p two H j stays i)) (same i)))
 
       child : (c : ℕ) → liveFrom h p e l (childAt p (class 0 0) c) ≡ liveOf (shifted c p h) p e l
       child c =

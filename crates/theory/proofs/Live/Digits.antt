@@ -1,14 +1,12 @@
 -- The digits at which a class has a live class below it.
 use mathlib.Core.Path.{_≡_, refl, sym, ap, _∙_}
 use mathlib.Core.Bool.{Bool, true, false}
-use mathlib.Core.List.{List, [], _∷_, map}
-use Prim.Native.Nat.{ℕ, zero, suc, _*_, _%_, _^_, _≤_, _<_, _∣_}
+use mathlib.Core.List.{List, [], _∷_}
+use Prim.Native.Nat.{ℕ, zero, suc, _*_, _^_, _≤_, _<_, _∣_}
 use native.Mathlib.Omega.{arith}
 use native.Mathlib.Nat.{dvd-trans, dvd-zero, dvd-mul-right, dvd-mul-right-of-dvd, mod-eq-zero-of-dvd, zero-div, pow-succ'}
-use lib.Dec.{eqb}
 use Rattle.theory.specs.Lists.{In}
 use Rattle.theory.specs.Range.{passing}
-use Rattle.theory.specs.Prime.{divides}
 use Rattle.theory.specs.Polynomial.{value, vanishes}
 use Rattle.theory.specs.Taylor.{taylor, shifted}
 use Rattle.theory.specs.Degree.{leastValuation, degreeBound, allZero, primitive}
@@ -21,9 +19,9 @@ use Rattle.theory.proofs.Lists.NoRepeat.{NoRepeat}
 use Rattle.theory.proofs.Numbers.Power.{pow-dvd}
 use Rattle.theory.proofs.Numbers.Prime.{divides-dvd}
 use Rattle.theory.proofs.Numbers.Congruence.{Congruent, cong-refl, cong-trans, cong-of-eq, cong-dvd, dvd-cong}
-use Rattle.theory.proofs.Range.{passing-sound, passing-no-repeat, passing-same, passing-none}
+use Rattle.theory.proofs.Range.{passing-sound, passing-no-repeat, passing-none}
 use Rattle.theory.proofs.Polynomials.Arithmetic.{coef-stretch, coef-modulo}
-use Rattle.theory.proofs.Polynomials.Congruence.{SameModulo, cong-coefficients}
+use Rattle.theory.proofs.Polynomials.Congruence.{cong-coefficients, vanishes-same}
 use Rattle.theory.proofs.Polynomials.Primitive.{coef-primitive, primitive-degree, scaled-zero, scaled-primitive}
 
 pub digits-finished : (p : ℕ) (g : List ℕ) → allZero g ≡ true → liveDigits p g ≡ []
@@ -48,12 +46,6 @@ digits-no-repeat p g = go (allZero g) refl
     go true z = rw (digits-finished p g z) tt
     go false z = rw (digits-open p g z) (passing-no-repeat (vanishes p (primitive p g)) p 0)
 
--- polynomials that agree modulo p vanish at the same digits
-pub same-digits : (p : ℕ) (g h : List ℕ) → SameModulo p g h → passing (vanishes p g) p 0 ≡ passing (vanishes p h) p 0
-unfolding vanishes divides
-same-digits p g h same =
-    passing-same (vanishes p g) (vanishes p h) p 0 (λ c l b. ap (λ (z : ℕ). eqb z 0) (cong-coefficients g h c same .same))
-
 -- a power of p that all coefficients are multiplied by changes nothing
 pub scaled-digits : (p : ℕ) → 2 ≤ p → (v : ℕ) (F G : List ℕ) → ((i : ℕ) → coef F i ≡ p ^ v * coef G i) → liveDigits p F ≡ liveDigits p G
 scaled-digits p two v F G times = go (allZero G) refl
@@ -62,18 +54,19 @@ scaled-digits p two v F G times = go (allZero G) refl
     go true z = digits-finished p F (scaled-zero p two v F G times ∙ z) ∙ sym (digits-finished p G z)
     go false z =
         digits-open p F (scaled-zero p two v F G times ∙ z)
-        ∙ same-digits p (primitive p F) (primitive p G) (λ i. cong-of-eq (scaled-primitive p two v F G times z i))
+        ∙ ap (λ (test : ℕ → Bool). passing test p 0)
+        (vanishes-same (primitive p F) (primitive p G) (λ i. cong-of-eq (scaled-primitive p two v F G times z i)))
         ∙ sym (digits-open p G z)
 
 -- At level n
 
 module _ (p : ℕ) (two : 2 ≤ p) (f : List ℕ) (n : ℕ) (d : Class) (deep : n ≤ d .level) where
-  F : List ℕ
-  F = map (λ a. a % p ^ n) (shifted (d .residue) (p ^ (d .level)) f)
+  abbrev F : List ℕ
+  F = classPolynomial f p n d
 
   -- only the constant coefficient is left
   constant : (i : ℕ) → coef F (suc i) ≡ 0
-  unfolding F
+  unfolding classPolynomial
   constant i =
       let q = p ^ (d .level) in
       let g = taylor (d .residue) f in
@@ -101,8 +94,8 @@ module _ (p : ℕ) (two : 2 ≤ p) (f : List ℕ) (n : ℕ) (d : Class) (deep : 
       (cong-of-eq (omega arith))
 
   -- and there are no digits
-  pub no-digits : liveDigits p (classPolynomial f p n d) ≡ []
-  unfolding classPolynomial F vanishes
+  pub no-digits : liveDigits p F ≡ []
+  unfolding vanishes
   no-digits = go (allZero F) refl
     where
       go : (b : Bool) → allZero F ≡ b → liveDigits p F ≡ []

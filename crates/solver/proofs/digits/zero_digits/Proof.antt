@@ -9,10 +9,10 @@ use lib.Seq.{length-front, length-take-le}
 use Rattle.theory.specs.inner.Polynomial.{Degree}
 use Rattle.theory.proofs.Lists.Fill.{part-back}
 use Rattle.theory.proofs.Numbers.Prime.{prime-pos}
-use Rattle.theory.proofs.Polynomials.Congruence.{SameModulo}
+use Rattle.theory.proofs.Polynomials.Congruence.{SameModulo, degree-same, vanishes-same}
 use Rattle.solver.specs.inner.Table.{degreeModulo, zeroDigits}
 use Rattle.solver.proofs.Tables.{residues-below, residues-same}
-use Rattle.solver.proofs.Zeros.{degree-modulo, degree-modulo-lt, degree-same, vanishes-same}
+use Rattle.solver.proofs.Zeros.{degree-modulo, degree-modulo-lt}
 use Rattle.solver.proofs.digits.zero_digits.Statement.{statement}
 use Rattle.solver.proofs.digits.zero_digits.Tie as tie
 
