@@ -9,6 +9,7 @@ int main(void)
     test_moduli();
     test_solving();
     test_lists();
+    test_counts();
     test_texts();
     return finish();
 }

@@ -5,6 +5,7 @@
 void test_moduli(void);
 void test_solving(void);
 void test_lists(void);
+void test_counts(void);
 void test_texts(void);
 void test_fixed_cases(void);
 void test_rule_7(void);

@@ -20,6 +20,11 @@ pub first-count : countedOf 2 4 firstMap ≡ Ones 4
 unfolding isComposite countedOf
 first-count = refl
 
+-- 02, 2.4: "a map of 61 bits is one word with three of them", that is, of spare bits, which are 1 here
+pub sixty-one-bits : countedOf 61 1 (255 ∷ 255 ∷ 255 ∷ 255 ∷ 255 ∷ 255 ∷ 255 ∷ 255 ∷ []) ≡ Ones 61
+unfolding isComposite countedOf
+sixty-one-bits = refl
+
 -- "Maps: 2^19 passes with 65,536 bytes; 3^12 = 531,441 is refused 9."
 pub largest-map : mappedOf 2 19 [] [] 65536 ≡ Filled
 unfolding isComposite mappedOf

@@ -3,9 +3,10 @@ mod Or
 mod Adding
 mod SetBit
 mod Steps
+mod Word
+mod Bytes
 mod Ones
 mod Listed
-mod Bytes
 pub mod Verdicts
 mod Answers
 pub mod Rivals

@@ -1,42 +1,33 @@
--- Counting the ones of a map, bit after bit.
-use mathlib.Core.Path.{_≡_, refl, ap, _∙_}
-use mathlib.Core.Bool.{Bool, true, false}
-use mathlib.Core.List.{List, [], _∷_}
-use Prim.Native.Nat.{ℕ, _+_, _/_, _%_, _^_, _≤_, _<_}
-use native.Mathlib.Nat.{mod-lt}
-use native.Mathlib.Omega.{arith}
-use borrow.Author.Tests.{eqb-true, eqb-false}
-use lib.Dec.{eqb}
-use lib.ListN.{length, getD, length-append}
+-- Counting the ones of a map, word after word.
+use mathlib.Core.Path.{_≡_, refl, sym, ap, _∙_}
+use mathlib.Core.List.{List}
+use Prim.Native.Nat.{ℕ, _+_, _^_, _≤_, _<_}
+use native.Mathlib.Nat.{zero-add, lt-of-lt-of-le}
+use lib.ListN.{length, length-append}
+use lib.Pow.{pow-mono}
 use Rattle.theory.specs.Range.{passing}
-use Rattle.theory.specs.RootMap.{bit}
-use Rattle.theory.proofs.Passing.{passing-next-on, passing-next-off, passing-most}
+use Rattle.theory.specs.RootMap.{bit, bitsFrom}
+use Rattle.theory.proofs.Passing.{passing-most}
+use Rattle.theory.proofs.Range.{passing-append}
+use Rattle.theory.proofs.RootMap.{bits-lt}
 use Rattle.rootmap.specs.inner.Bits.{isSet, onesBelow}
-
--- a bit is 0 or 1
-pub bit-small : (map : List ℕ) (r : ℕ) → bit map r < 2
-unfolding bit
-bit-small map r = mod-lt (getD map (r / 8) 0 / 2 ^ (r % 8)) (omega arith)
+use Rattle.rootmap.specs.inner.Word.{onesOf}
+use Rattle.rootmap.proofs.Word.{ones-of-bits, word-count}
+use Rattle.rootmap.proofs.Bytes.{bit-small}
 
 pub ones-none : (map : List ℕ) → 0 ≡ onesBelow 0 map
 unfolding onesBelow
 ones-none map = refl
 
--- each bit adds itself
-pub ones-next : (map : List ℕ) (r : ℕ) → onesBelow r map + bit map r ≡ onesBelow (r + 1) map
+-- a word of k bits adds its ones
+pub ones-next : (map : List ℕ) (r k w : ℕ) → k ≤ w → onesBelow r map + onesOf w (bitsFrom (bit map) k r) ≡ onesBelow (r + k) map
 unfolding onesBelow
-ones-next map r = go (eqb (bit map r) 1) refl
-  where
-    go : (b : Bool) → eqb (bit map r) 1 ≡ b → length (passing (isSet map) r 0) + bit map r ≡ length (passing (isSet map) (r + 1) 0)
-    go true e =
-        let more = ap length (passing-next-on (isSet map) r e) ∙ length-append (passing (isSet map) r 0) (r ∷ []) in
-        omega (arith, eqb-true (bit map r) 1 e)
-    go false e =
-        let no-one : bit map r ≡ 0 = zero (eqb-false (bit map r) 1 e) in
-        omega (arith, ap length (passing-next-off (isSet map) r e))
-      where
-        zero : (bit map r ≡ 1 → ⊥) → bit map r ≡ 0
-        zero h = omega (arith, bit-small map r)
+ones-next map r k w h =
+    let x = bitsFrom (bit map) k r in
+    let below : x < 2 ^ w = lt-of-lt-of-le (bits-lt (bit map) (bit-small map) k r) (pow-mono h) in
+    let word : onesOf w x ≡ length (passing (isSet map) k r) = sym (word-count w x below) ∙ ones-of-bits (bit map) (bit-small map) k r in
+    let both = ap length (passing-append (isSet map) r k 0) ∙ length-append (passing (isSet map) r 0) (passing (isSet map) k (0 + r)) in
+    ap (λ (y : ℕ). length (passing (isSet map) r 0) + y) word ∙ sym (rw (zero-add r) at both)
 
 pub ones-most : (map : List ℕ) (m : ℕ) → onesBelow m map ≤ m
 unfolding onesBelow

@@ -42,6 +42,6 @@ or-other x j k ne = or-bit x (2 ^ j) k ∙ ap (bitOr (x / 2 ^ k % 2)) (one-bit j
 pub or-byte : (x j : ℕ) → j < 8 → x < 256 → bitOr x (2 ^ j) < 256
 or-byte x j h l = or-lt 8 x (2 ^ j) l (pow-lt h)
 
--- 1 << j of a byte
-pub shl-one : (j : ℕ) → j < 8 → 1 * 2 ^ j % 256 ≡ 2 ^ j
-shl-one j h = rw one-mul (mod-eq-of-lt (pow-lt h))
+-- 1 << j of w bits
+pub shl-one : (w j : ℕ) → j < w → 1 * 2 ^ j % 2 ^ w ≡ 2 ^ j
+shl-one w j h = rw one-mul (mod-eq-of-lt (pow-lt h))

@@ -1,14 +1,13 @@
 // The root map of a class list, and its count.
 ghost use mathlib.Core.Path.{_≡_};
-ghost use Prim.Native.Nat.{_*_, _≤_};
 ghost use lib.ListN.{length};
-ghost use Rattle.rootmap.specs.inner.Bits.{onesBelow};
 ghost use Rattle.rootmap.specs.Map.{mappedOf, mapFilled, countedOf};
 ghost use Rattle.rootmap.specs.inner.Size.{sizedOf};
 use numbers::Modulus;
 use refusal::Refusal;
 
 mod bits;
+mod count;
 mod fill;
 
 pub enum Mapped {
@@ -43,7 +42,7 @@ pub fn count_map(p: u32, n: u32, map: &[u8]) -> Counted
     ensures { λ r. ⌜ r ≡ countedOf p n (now (map .entry)) ⌝ }
 {
     match check_size(numbers::check_modulus(p, n), map.len()) {
-        Modulus::Accepted(m) => Counted::Ones(count_ones(map, m as usize)),
+        Modulus::Accepted(m) => Counted::Ones(count::count_ones(map, m as usize)),
         Modulus::Refused(r) => Counted::Refused(r),
     }
 }
@@ -62,18 +61,4 @@ fn check_size(checked: Modulus, bytes: usize) -> Modulus
         return Modulus::Refused(Refusal::MapLength);
     }
     checked
-}
-
-// The number of ones among the first m bits.
-fn count_ones(map: &[u8], m: usize) -> u64
-    requires { ⌜ (m ≤ 524288) × (m ≤ 8 * length (now map)) ⌝ }
-    ensures { λ r. ⌜ r ≡ onesBelow m (now (map .entry)) ⌝ }
-{
-    let mut ones: u64 = 0;
-    let mut r: usize = 0;
-    while r < m {
-        ones += bits::get_bit(map, r) as u64;
-        r += 1;
-    }
-    ones
 }

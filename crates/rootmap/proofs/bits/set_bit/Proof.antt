@@ -25,7 +25,7 @@ same-length c = search needs
 returns : tie.Need-returns
 returns c =
     let a = c .before .args in
-    rw (shl-one (a .r % 8) (omega arith)) (bit-added (a .map .now) (a .r) (c .before .pre))
+    rw (shl-one 8 (a .r % 8) (omega arith)) (bit-added (a .map .now) (a .r) (c .before .pre))
 
 pub set-bit-spec : {M : Type 1} → statement M
 set-bit-spec =
