@@ -45,8 +45,9 @@ last-word c =
     let b = bit (a .map .now) in
     let rest = a .m % 64 in
     let place : 8 * (8 * (a .m / 64)) ≡ 64 * (a .m / 64) = omega arith in
+    let bytes : c .before .word .result ≡ bitsFrom b (8 * ((rest + 7) / 8)) (8 * (8 * (a .m / 64))) = c .before .word .ensures in
     c .low-bits .ensures
-    ∙ ap (λ (x : ℕ). x % 2 ^ rest) (c .before .word .ensures)
+    ∙ ap (λ (x : ℕ). x % 2 ^ rest) bytes
     ∙ bits-low b (bit-small (a .map .now)) rest (8 * ((rest + 7) / 8)) (8 * (8 * (a .m / 64))) (omega arith)
     ∙ ap (bitsFrom b rest) place
 

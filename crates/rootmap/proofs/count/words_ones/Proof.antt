@@ -48,9 +48,9 @@ loop-again c =
     let i = l .loop .i in
     let place : 8 * (8 * i) ≡ 64 * i = omega arith in
     let next : 64 * i + 64 ≡ 64 * (i + 1) = omega arith in
-    let word : c .before .word .result ≡ bitsFrom (bit map) 64 (64 * i) = c .before .word .ensures ∙ ap (bitsFrom (bit map) 64) place in (
+    let word : c .before .word .result ≡ bitsFrom (bit map) 64 (8 * (8 * i)) = c .before .word .ensures in (
       omega arith,
-      ap₂ (λ (x y : ℕ). x + y) (l .loop .inv .1) (c .word-ones .ensures ∙ ap (onesOf 64) word)
+      ap₂ (λ (x y : ℕ). x + y) (l .loop .inv .1) (c .word-ones .ensures ∙ ap (onesOf 64) (word ∙ ap (bitsFrom (bit map) 64) place))
           ∙ ones-next map (64 * i) 64 64 (omega arith)
           ∙ ap (λ (m : ℕ). onesBelow m map) next,
     )
