@@ -93,7 +93,8 @@ ones-of-bits b h (suc k) r = go (ones-of-bits b h k (suc r)) (eqb (b r) 1) refl
 pub word-count : (k x : ℕ) → x < 2 ^ k → ones x ≡ onesOf k x
 unfolding onesOf
 word-count k x h =
-    ap ones (number-of-bits bits k x 0 h (λ i l. ap bits (sym (zero-add i)))) ∙ ones-of-bits bits (λ j. mod-lt (x / 2 ^ j) (omega arith)) k 0
+    ap ones (number-of-bits bits k x 0 h (λ i l. ap bits (sym (zero-add i))))
+    ∙ ones-of-bits bits (λ j. mod-lt (x / 2 ^ j) (omega arith)) k 0
   where
     bits : ℕ → ℕ
     bits j = x / 2 ^ j % 2

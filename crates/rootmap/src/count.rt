@@ -36,7 +36,7 @@ fn word_ones(x: u64) -> u64
 }
 
 // The number of ones of the first k words.
-fn words_ones(map: &[u8], k: usize) -> u64
+fn ones_of_words(map: &[u8], k: usize) -> u64
     requires { ⌜ (64 * k ≤ 524288) × (8 * k ≤ length (now map)) ⌝ }
     ensures { λ r. ⌜ r ≡ onesBelow (64 * k) (now (map .entry)) ⌝ }
 {
@@ -58,5 +58,5 @@ pub(crate) fn count_ones(map: &[u8], m: usize) -> u64
     let full = m / 64;
     let rest = m % 64;
     let last = low_bits(word(map, 8 * full, (rest + 7) / 8), rest);
-    words_ones(map, full) + word_ones(last)
+    ones_of_words(map, full) + word_ones(last)
 }

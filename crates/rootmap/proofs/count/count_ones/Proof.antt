@@ -24,8 +24,8 @@ word-requires c κs = search needs
 low-bits-requires : tie.Need-low-bits-requires
 low-bits-requires c κs = search needs
 
-words-ones-requires : tie.Need-words-ones-requires
-words-ones-requires c κs = search needs
+ones-of-words-requires : tie.Need-ones-of-words-requires
+ones-of-words-requires c κs = search needs
 
 word-ones-requires : tie.Need-word-ones-requires
 word-ones-requires c κs = search needs
@@ -35,7 +35,7 @@ add-result c =
     let l = c .before .before in
     let a = l .before .before .before .args in
     let full = ones-most (a .map .now) (64 * (a .m / 64)) in
-    record { fits = omega (arith, c .before .words-ones .ensures, full, c .word-ones .ensures, ones-of-most 64 (l .low-bits .result)) }
+    record { fits = omega (arith, c .before .ones-of-words .ensures, full, c .word-ones .ensures, ones-of-most 64 (l .low-bits .result)) }
 
 -- the last word is the bits after the full words
 last-word : (c : tie.After-low-bits) → let a = c .before .before .before .args in
@@ -56,7 +56,7 @@ returns c =
     let l = c .before .before in
     let a = l .before .before .before .args in
     let all : 64 * (a .m / 64) + a .m % 64 ≡ a .m = omega arith in
-    ap₂ (λ (x y : ℕ). x + y) (c .before .words-ones .ensures) (c .word-ones .ensures ∙ ap (onesOf 64) (last-word l))
+    ap₂ (λ (x y : ℕ). x + y) (c .before .ones-of-words .ensures) (c .word-ones .ensures ∙ ap (onesOf 64) (last-word l))
     ∙ ones-next (a .map .now) (64 * (a .m / 64)) (a .m % 64) 64 (omega arith)
     ∙ ap (λ (m : ℕ). onesBelow m (a .map .now)) all
 
@@ -68,7 +68,7 @@ count-ones-spec =
     add-word
     word-requires
     low-bits-requires
-    words-ones-requires
+    ones-of-words-requires
     word-ones-requires
     add-result
     returns)

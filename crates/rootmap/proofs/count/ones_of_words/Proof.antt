@@ -1,4 +1,4 @@
--- `rootmap::count::words_ones` meets its contract. The invariant: the ones of the first i words are counted.
+-- `rootmap::count::ones_of_words` meets its contract. The invariant: the ones of the first i words are counted.
 use mathlib.Core.Path.{_≡_, ap, ap₂, _∙_}
 use Prim.Native.Nat.{ℕ, _+_, _*_, _-_, _≤_}
 use native.Mathlib.Omega.{arith}
@@ -8,8 +8,8 @@ use Rattle.rootmap.specs.inner.Bits.{onesBelow}
 use Rattle.rootmap.specs.inner.Word.{onesOf}
 use Rattle.rootmap.proofs.Word.{ones-of-most}
 use Rattle.rootmap.proofs.Ones.{ones-none, ones-next, ones-most}
-use Rattle.rootmap.proofs.count.words_ones.Statement.{statement}
-use Rattle.rootmap.proofs.count.words_ones.Tie as tie
+use Rattle.rootmap.proofs.count.ones_of_words.Statement.{statement}
+use Rattle.rootmap.proofs.count.ones_of_words.Tie as tie
 
 abbrev Inv-loop : tie.InvT-loop
 Inv-loop map k ones₀ i₀ ones i = (i ≤ k) × (ones ≡ onesBelow (64 * i) map)
@@ -62,8 +62,8 @@ returns c =
     let all : l .loop .i ≡ a .k = omega arith in
     l .loop .inv .1 ∙ ap (λ (i : ℕ). onesBelow (64 * i) (a .map .now)) all
 
-pub words-ones-spec : {M : Type 1} → statement M
-words-ones-spec =
+pub ones-of-words-spec : {M : Type 1} → statement M
+ones-of-words-spec =
     tie.close
     (tie.spec
     Inv-loop
