@@ -3,12 +3,11 @@ use mathlib.Core.Path.{_≡_, refl, sym, ap, _∙_}
 use mathlib.Core.List.{List}
 use Prim.Native.Nat.{ℕ, _+_, _^_, _≤_, _<_}
 use native.Mathlib.Nat.{zero-add, lt-of-lt-of-le}
-use lib.ListN.{length, length-append}
+use lib.ListN.{length}
 use lib.Pow.{pow-mono}
 use Rattle.theory.specs.Range.{passing}
 use Rattle.theory.specs.RootMap.{bit, bitsFrom}
-use Rattle.theory.proofs.Passing.{passing-most}
-use Rattle.theory.proofs.Range.{passing-append}
+use Rattle.theory.proofs.Passing.{passing-most, passing-sum}
 use Rattle.theory.proofs.RootMap.{bits-lt}
 use Rattle.rootmap.specs.inner.Bits.{isSet, onesBelow}
 use Rattle.rootmap.specs.inner.Word.{onesOf}
@@ -26,8 +25,7 @@ ones-next map r k w h =
     let x = bitsFrom (bit map) k r in
     let below : x < 2 ^ w = lt-of-lt-of-le (bits-lt (bit map) (bit-small map) k r) (pow-mono h) in
     let word : onesOf w x ≡ length (passing (isSet map) k r) = sym (word-count w x below) ∙ ones-of-bits (bit map) (bit-small map) k r in
-    let both = ap length (passing-append (isSet map) r k 0) ∙ length-append (passing (isSet map) r 0) (passing (isSet map) k (0 + r)) in
-    ap (λ (y : ℕ). length (passing (isSet map) r 0) + y) word ∙ sym (rw (zero-add r) at both)
+    ap (λ (y : ℕ). length (passing (isSet map) r 0) + y) word ∙ sym (rw (zero-add r) at (passing-sum (isSet map) r k 0))
 
 pub ones-most : (map : List ℕ) (m : ℕ) → onesBelow m map ≤ m
 unfolding onesBelow

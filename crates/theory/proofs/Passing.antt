@@ -22,11 +22,15 @@ unfolding passing
 passing-next-off f k e =
     passing-append f k 1 0 ∙ ap (λ xs. passing f k 0 ++ xs) (rw (zero-add k) (passing-off f 0 k e)) ∙ append-nil (passing f k 0)
 
+-- how many there are in j numbers and the k after them
+pub passing-sum : (f : ℕ → Bool) (j k i : ℕ) → length (passing f (j + k) i) ≡ length (passing f j i) + length (passing f k (i + j))
+passing-sum f j k i = ap length (passing-append f j k i) ∙ length-append (passing f j i) (passing f k (i + j))
+
 -- a shorter range lists no more
 pub passing-shorter : (f : ℕ → Bool) (j k : ℕ) → j ≤ k → length (passing f j 0) ≤ length (passing f k 0)
 passing-shorter f j k h =
     let e : j + (k - j) ≡ k = omega arith in
-    rw (← e) (omega (arith, ap length (passing-append f j (k - j) 0), length-append (passing f j 0) (passing f (k - j) (0 + j))))
+    rw (← e) (omega (arith, passing-sum f j (k - j) 0))
 
 -- no more are listed than there are numbers
 pub passing-most : (f : ℕ → Bool) (k i : ℕ) → length (passing f k i) ≤ k
@@ -95,8 +99,7 @@ passing-full f k e c h = go (f c) refl
         absurd (omega (
           arith,
           ap (λ (x : ℕ). length (passing f x 0)) n,
-          ap length (passing-append f (c + 1) (k - (c + 1)) 0),
-          length-append (passing f (c + 1) 0) (passing f (k - (c + 1)) (0 + (c + 1))),
+          passing-sum f (c + 1) (k - (c + 1)) 0,
           passing-most f (k - (c + 1)) (0 + (c + 1)),
         ))
 

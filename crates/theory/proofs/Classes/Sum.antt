@@ -5,7 +5,7 @@ use mathlib.Core.List.{List, [], _∷_, _++_, map}
 use Prim.Native.Nat.{ℕ, zero, suc, _+_, _-_, _*_, _%_, _^_, _≤_, _<_}
 use native.Mathlib.Nat.{zero-add, zero-mul, suc-mul, mod-eq-of-lt, mul-add-mod-self-right}
 use native.Mathlib.Omega.{arith}
-use lib.ListN.{length, length-append}
+use lib.ListN.{length}
 use Rattle.theory.specs.Lists.{In, here, there}
 use Rattle.theory.specs.Range.{passing}
 use Rattle.theory.specs.Class.{Class, IsClass, Member, isMember, memberCount}
@@ -14,8 +14,8 @@ use Rattle.theory.specs.Shortest.{shortest, count}
 use Rattle.theory.proofs.Lists.Names.{in-cast}
 use Rattle.theory.proofs.Lists.NoRepeat.{NoRepeat}
 use Rattle.theory.proofs.Numbers.Power.{pow-pos, pow-split}
-use Rattle.theory.proofs.Range.{passing-same, passing-none, passing-one, passing-or, passing-append}
-use Rattle.theory.proofs.Passing.{passing-most}
+use Rattle.theory.proofs.Range.{passing-same, passing-none, passing-one, passing-or}
+use Rattle.theory.proofs.Passing.{passing-most, passing-sum}
 use Rattle.theory.proofs.Classes.Members.{member-congruent, congruent-member, members-sound, rival-members}
 use Rattle.theory.proofs.Classes.Cover.{listed, shortest-rival, shortest-disjoint, shortest-no-repeat}
 
@@ -38,8 +38,7 @@ blocks f q a h sound complete zero = rw (zero-mul q)
 blocks f q a h sound complete (suc j) =
     let ih = blocks f q a h sound complete j in
     let one = block f q a j h sound complete in
-    rw (suc-mul j q, passing-append f (j * q) q 0, length-append, zero-add (j * q), ih, one)
-    (omega arith)
+    rw (suc-mul j q, passing-sum f (j * q) q 0, zero-add (j * q), ih, one) (omega arith)
 
 -- "there are p^(n − t)"
 pub class-size : (p n : ℕ) → 0 < p → (c : Class) → IsClass p n c → length (passing (isMember p c) (p ^ n) 0) ≡ memberCount p n c
