@@ -362,6 +362,12 @@ static int count_long(void)
     return wimpleclay_count_map(2, 19, map, sizeof map).ones == LONG;
 }
 
+/* One word of the map, three of its bits spare. */
+static int count_word(void)
+{
+    return wimpleclay_count_map(61, 1, map, 8).number == 0;
+}
+
 static int print_lists(void)
 {
     static const struct {
@@ -372,6 +378,7 @@ static int print_lists(void)
         {"`next_root`, 100,000 classes mod 2^19", next_in_long},
         {"`fill_map`, 100,000 classes mod 2^19", fill_long},
         {"`count_map`, mod 2^19", count_long},
+        {"`count_map`, mod 61", count_word},
     };
     problem q = simple_roots("", 251, 4);
     library_prepare(&q);
