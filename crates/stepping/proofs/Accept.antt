@@ -7,10 +7,11 @@ use Rattle.theory.specs.SignedClass.{SignedClass, residuesOf, levelsOf}
 use Rattle.theory.specs.Shortest.{count}
 use Rattle.refusal.specs.Rules.{passes}
 use Rattle.numbers.specs.inner.Usable.{Usable}
-use Rattle.solver.specs.Solve.{solution, solverVerdict}
-use Rattle.solver.proofs.Answered.{passes-modulus, found-passes, found-number, found-count, found-residues, found-levels, found-long}
+use Rattle.solver.specs.Solve.{solution, marksOf, solverVerdict}
+use Rattle.solver.proofs.Answered.{passes-modulus, found-passes, found-number, found-count, found-long}
+use Rattle.solver.proofs.Answered.{found-residues, found-levels, found-marks}
 use Rattle.classes.proofs.Entries.{classes-of-parts}
-use Rattle.stepping.specs.Call.{Input, Accepted, listsLeft, firstResidues, firstLevels, firstSlots}
+use Rattle.stepping.specs.Call.{Input, Accepted, listsLeft, firstResidues, firstLevels, firstMarks, firstSlots}
 
 module _ (x : Input) {k roots-found : ℕ} (A : Accepted x k roots-found) where
   pub accepted-passes : solverVerdict (x .f) (x .p) (x .n) (x .given) ≡ passes
@@ -32,6 +33,10 @@ module _ (x : Input) {k roots-found : ℕ} (A : Accepted x k roots-found) where
   pub first-levels : firstLevels x k ≡ levelsOf (solution (x .f) (x .p) (x .n))
   unfolding listsLeft
   first-levels = found-levels (x .f) (x .p) (x .n) (x .given) (A .answer)
+
+  pub first-marks : firstMarks x k ≡ marksOf (x .f) (x .p) (x .n)
+  unfolding listsLeft
+  first-marks = found-marks (x .f) (x .p) (x .n) (x .given) (A .answer)
 
   -- the first k slots are the list
   pub first-slots : firstSlots x k ≡ solution (x .f) (x .p) (x .n)

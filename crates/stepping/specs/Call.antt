@@ -32,6 +32,9 @@ firstResidues x k = take k (listsLeft x .residues)
 abbrev pub firstLevels : Input → ℕ → List ℕ
 firstLevels x k = take k (listsLeft x .levels)
 
+abbrev pub firstMarks : Input → ℕ → List ℕ
+firstMarks x k = take k (listsLeft x .marks)
+
 -- the classes in these slots
 unfoldable pub firstSlots : Input → ℕ → List SignedClass
 firstSlots x k = classesOf (firstResidues x k) (firstLevels x k)

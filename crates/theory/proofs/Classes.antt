@@ -14,4 +14,5 @@ pub mod Tree
 pub mod Branch
 pub mod Members
 pub mod Sum
+pub mod OneAbove
 pub mod Share

@@ -1,5 +1,5 @@
--- What is proved of the definitions. General laws first, then those of classes, polynomials, marks, live classes, maps, stepping and
--- residues of least size.
+-- What is proved of the definitions. General laws first, then those of classes, polynomials, marks, live classes, maps, stepping, residues
+-- of least size and simple roots.
 pub mod Tests
 pub mod Lists
 pub mod Numbers
@@ -15,4 +15,6 @@ pub mod RootMap
 pub mod Stepping
 pub mod ThirdDemand
 pub mod Signed
+pub mod Simple
+pub mod SimpleIntegers
 pub mod Examples

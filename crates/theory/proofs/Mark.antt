@@ -118,6 +118,9 @@ derivative-zero p w z i =
     let none : coef (primitive p w) (suc i) ≡ 0 = coef-primitive p w (suc i) ∙ rw (all-zero-coef w z (suc i)) (zero-div q) in
     coef-derivative (primitive p w) i ∙ rw none (omega arith)
 
+pub derivative-vanishes : (p : ℕ) (w : List ℕ) → allZero w ≡ true → (r : ℕ) → vanishes p (derivative (primitive p w)) r ≡ true
+derivative-vanishes p w z r = zero-vanishes p (derivative (primitive p w)) (derivative-zero p w z) r
+
 module _ (w : List ℕ) (p n : ℕ) (hp : 0 < p) where
   pub mark-over : (c : Class) → markOf w p n c ≡ markOver (vanishes p (derivative (primitive p w))) p n c
   unfolding markOf markOver isWhole markBy
@@ -128,8 +131,13 @@ module _ (w : List ℕ) (p n : ℕ) (hp : 0 < p) where
           let d = derivative (primitive p w) in
           rw (z, markOf)
           (sym (mark-constant (λ i. vanishes p d (c .residue + i * p ^ (c .level))) (p ^ (n - c .level)) true
-          (pow-pos p hp (n - c .level)) (λ i l. zero-vanishes p d (derivative-zero p w z) (c .residue + i * p ^ (c .level)))))
+          (pow-pos p hp (n - c .level)) (λ i l. derivative-vanishes p w z (c .residue + i * p ^ (c .level)))))
       go false z = rw (z, markOf)
+
+  -- "If all coefficients reduce to zero the mark is 0"
+  pub mark-all-zero : allZero w ≡ true → (c : Class) → markOf w p n c ≡ 0
+  unfolding markOf
+  mark-all-zero z c = rw (z, markOf)
 
   pub mark-of-most : (c : Class) → markOf w p n c ≤ 2
   unfolding markOver

@@ -5,4 +5,5 @@ pub mod Integers
 pub mod Reduction
 pub mod Prime
 pub mod Euclid
+pub mod Inverse
 pub mod Valuation

@@ -13,5 +13,6 @@ pub mod Degree
 pub mod Roots
 pub mod Signed
 pub mod Derivative
+pub mod Hensel
 pub mod Primitive
 pub mod Differences

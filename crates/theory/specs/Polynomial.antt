@@ -59,6 +59,16 @@ unfoldable pub valueℤ : List ℤ → ℕ → ℤ
 valueℤ [] x = pos 0
 valueℤ (a ∷ f) x = a +ℤ pos x *ℤ valueℤ f x
 
+-- the derivative
+unfoldable pub weightedℤ : ℕ → List ℤ → List ℤ
+weightedℤ k [] = []
+weightedℤ k (a ∷ f) = (pos k *ℤ a) ∷ weightedℤ (suc k) f
+
+unfoldable pub derivativeℤ : List ℤ → List ℤ
+unfolding weightedℤ
+derivativeℤ [] = []
+derivativeℤ (a ∷ f) = weightedℤ 1 f
+
 -- z is a multiple of m
 pub record Multiple (m : ℕ) (z : ℤ) : Type 0 where
   pub quotient : ℤ

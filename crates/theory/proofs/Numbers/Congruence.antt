@@ -3,6 +3,7 @@ use mathlib.Core.Path.{_≡_, refl, sym, ap, _∙_}
 use Prim.Native.Nat.{ℕ, suc, _+_, _-_, _*_, _/_, _%_, _<_, _∣_}
 use native.Mathlib.Nat.{add-mod, mod-mod, mul-add-mod-self-right, div-add-mod', mod-mod-of-dvd, mul-comm, mod-eq-zero-of-dvd}
 use native.Mathlib.Nat.{dvd-of-mod-eq-zero, zero-mod, add-mul-mod-self-right, mod-eq-of-lt, mod-lt, mul-lt-mul-of-pos-left}
+use native.Mathlib.Nat.{zero-add, add-zero, add-comm, dvd-zero}
 use native.Mathlib.Omega.{arith}
 use lib.Arith.{digits-mod}
 
@@ -69,6 +70,14 @@ cong-cancel {m} {x} {y} z hm e =
         let q : suc (m - 1) ≡ m = omega arith in
         let s : a + z + z * (m - 1) ≡ a + z * m = omega (arith, ap (λ (x : ℕ). z * x) q) in
         record { same = ap (λ (x : ℕ). x % m) s ∙ add-mul-mod-self-right a z m }
+
+-- x and x + k agree modulo m exactly if m divides k
+pub cong-apart : {m x k : ℕ} → 0 < m → Congruent m x (x + k) → m ∣ k
+cong-apart {m} {x} {k} hm e =
+    cong-dvd (cong-cancel x hm (cong-trans (cong-of-eq (zero-add x)) (cong-trans e (cong-of-eq (add-comm x k))))) (dvd-zero m)
+
+pub apart-cong : {m k : ℕ} (x : ℕ) → m ∣ k → Congruent m (x + k) x
+apart-cong x d = cong-trans (cong-add cong-refl (dvd-cong d)) (cong-of-eq (add-zero x))
 
 -- (k·x) mod (k·m)
 pub mod-times : (k x m : ℕ) → 0 < k → 0 < m → k * x % (k * m) ≡ k * (x % m)

@@ -1,10 +1,10 @@
--- Euclid's lemma, its power form, and inverses modulo a prime.
+-- Euclid's lemma and its power form.
 use mathlib.Core.Path.{_≡_, sym, ap, _∙_, subst, subst₂}
 use mathlib.Core.Logic.{_⊎_, inl, inr}
-use Prim.Native.Nat.{ℕ, zero, suc, _+_, _-_, _*_, _/_, _%_, _≤_, _<_, _^_, _∣_}
+use Prim.Native.Nat.{ℕ, zero, suc, _+_, _*_, _/_, _%_, _≤_, _<_, _^_, _∣_}
 use native.Mathlib.Nat.{dvd-of-mod-eq-zero, dvd-mul-left, dvd-mul-right, dvd-mul-left-of-dvd, dvd-add-iff-right, dvd-trans}
 use native.Mathlib.Nat.{dvd-of-mul-dvd-mul-left, one-dvd, mul-dvd-mul-left, le-of-dvd}
-use native.Mathlib.Nat.{mod-lt, mod-eq-of-lt, div-add-mod', add-mod-right, mul-add-mod-self-right, mul-div-cancel'}
+use native.Mathlib.Nat.{mod-lt, div-add-mod', mul-div-cancel'}
 use native.Mathlib.Nat.{eq-zero-or-pos, eq-or-lt-of-le, one-mul, pow-zero, pow-succ'}
 use native.Mathlib.Omega.{arith}
 use Rattle.theory.specs.Prime.{Prime}
@@ -55,17 +55,3 @@ euclid-power p P (suc n) a b h w =
         subst₂ (λ (x y : ℕ). x ∣ y) (pow-succ' p n) (ap (λ (x : ℕ). a * x) (sym e) ∙ omega arith) w in
         let q = ih (b / p) (dvd-of-mul-dvd-mul-left (p ^ n) (prime-pos P) v) in
         subst₂ (λ (x y : ℕ). x ∣ y) (sym (pow-succ' p n)) e (mul-dvd-mul-left (p ^ n) p q)
-
--- one step of the descent to the inverse: from x·a ≡ d to −(p / d)·x·a ≡ p mod d
-pub inverse-step : (p a d x : ℕ) → 0 < p → p % d < p → x * a % p ≡ d → (p / d * ((p - 1) * x)) * a % p ≡ p % d
-inverse-step p a d x hp l w =
-    sym (add-mod-right (p / d * ((p - 1) * x) * a) p)
-    ∙ ap (λ (z : ℕ). z % p) (omega (
-      arith,
-      sum (p / d) (p - 1) (x * a / p) (p % d) (x * a) (omega arith) (omega (arith, div-add-mod' (x * a) p)) (div-add-mod' p d),
-    ))
-    ∙ mul-add-mod-self-right (p / d * (p - 1) * (x * a / p) + p / d * d) p (p % d)
-    ∙ mod-eq-of-lt l
-  where
-    sum : (q u k r y : ℕ) → p ≡ suc u → y ≡ k * p + d → q * d + r ≡ p → q * (u * y) + p ≡ (q * u * k + q * d) * p + r
-    sum q u k r y e f g = omega (arith, ap (λ (z : ℕ). q * (u * z)) f, ap (λ (z : ℕ). q * d * z) e)

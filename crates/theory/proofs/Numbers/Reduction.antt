@@ -1,7 +1,9 @@
 -- Integers modulo m: `reduce` is a ring homomorphism, and tells the multiples of m.
 use mathlib.Core.Path.{_≡_, refl, sym, ap, _∙_}
+use mathlib.Core.Logic.{_↔_}
 use Prim.Native.Nat.{ℕ, suc, _+_, _-_, _*_, _/_, _%_, _<_, _∣_}
 use native.Mathlib.Nat.{mod-lt, mod-eq-of-lt, zero-mod, mul-add-mod-self-right, mul-mod-right, div-add-mod'}
+use native.Mathlib.Nat.{mod-eq-zero-of-dvd, dvd-of-mod-eq-zero}
 use native.Mathlib.Omega.{arith}
 use lib.IntN.{ℤ, pos, negsuc, negℤ, _+ℤ_, _-ℤ_, _*ℤ_}
 use Rattle.theory.specs.Polynomial.{reduce, Multiple}
@@ -89,3 +91,11 @@ pub reduce-down : (k m : ℕ) → 0 < k → 0 < m → k ∣ m → (z : ℤ) → 
 reduce-down k m hk hm d z =
     sym (reduce-from k hk z (up z) (down z) (reduce m z) refl (cong-down d (reduce-is m hm z)) .same)
     ∙ mod-eq-of-lt (reduce-lt k hk z)
+
+-- so a divisor k of m divides z exactly if it divides the reduction modulo m
+pub multiple-dvd : (k m : ℕ) → 0 < k → 0 < m → k ∣ m → (z : ℤ) → Multiple k z ↔ (k ∣ reduce m z)
+multiple-dvd k m hk hm d z =
+    let down = reduce-down k m hk hm d z in (
+      (λ u. dvd-of-mod-eq-zero k (down ∙ multiple-reduces k hk z u)),
+      (λ v. reduces-multiple k hk z (sym down ∙ mod-eq-zero-of-dvd k v)),
+    )

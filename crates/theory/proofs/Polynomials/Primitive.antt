@@ -10,11 +10,14 @@ use native.Mathlib.Decide.{decLt}
 use native.Mathlib.Omega.{arith}
 use lib.Pow.{pow-add}
 use lib.ListN.{length, length-map}
+use Rattle.theory.specs.Polynomial.{value, derivative}
+use Rattle.theory.specs.Taylor.{scale}
 use Rattle.theory.specs.Degree.{leastValuation, degreeBound, allZero, primitive}
 use Rattle.theory.specs.inner.Polynomial.{coef, Degree}
 use Rattle.theory.proofs.Tests.{same-test}
 use Rattle.theory.proofs.Numbers.Power.{pow-pos, pow-dvd, pow-one}
-use Rattle.theory.proofs.Polynomials.Arithmetic.{coef-divided, divided-map}
+use Rattle.theory.proofs.Polynomials.Arithmetic.{value-scale, scale-divided, coef-divided, divided-map}
+use Rattle.theory.proofs.Polynomials.Derivative.{derivative-scale}
 use Rattle.theory.proofs.Polynomials.Highest.{all-zero-coef, all-zero-intro, all-zero-fails}
 use Rattle.theory.proofs.Polynomials.Degree.{least-valuation-dvd, degree-bound-degree}
 
@@ -31,6 +34,22 @@ length-primitive p f =
 module _ (p : ℕ) (two : 2 ≤ p) (f : List ℕ) where
   pub primitive-times : (i : ℕ) → p ^ leastValuation p f * coef (primitive p f) i ≡ coef f i
   primitive-times i = rw (coef-primitive p f i) (mul-div-cancel' (p ^ leastValuation p f) (least-valuation-dvd p two f i))
+
+  scale-primitive : scale (p ^ leastValuation p f) (primitive p f) ≡ f
+  unfolding primitive
+  scale-primitive = scale-divided (p ^ leastValuation p f) f (least-valuation-dvd p two f)
+
+  -- so are its values and those of its derivative
+  pub value-primitive : (x : ℕ) → value f x ≡ p ^ leastValuation p f * value (primitive p f) x
+  value-primitive x =
+      ap (λ (h : List ℕ). value h x) (sym scale-primitive) ∙ value-scale (p ^ leastValuation p f) (primitive p f) x
+
+  pub derivative-primitive : (x : ℕ) → value (derivative f) x ≡ p ^ leastValuation p f * value (derivative (primitive p f)) x
+  derivative-primitive x =
+      let q = p ^ leastValuation p f in
+      ap (λ (h : List ℕ). value (derivative h) x) (sym scale-primitive)
+      ∙ ap (λ (h : List ℕ). value h x) (derivative-scale q (primitive p f))
+      ∙ value-scale q (derivative (primitive p f)) x
 
   pub primitive-degree : allZero f ≡ false → Degree p (primitive p f) (degreeBound p f)
   primitive-degree z =

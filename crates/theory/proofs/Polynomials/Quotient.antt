@@ -1,14 +1,15 @@
 -- Division by y − c, by Horner's rule: the partial values are the quotient's coefficients.
-use mathlib.Core.Path.{_≡_, refl, _∙_}
+use mathlib.Core.Path.{_≡_, refl, sym, ap, _∙_}
 use mathlib.Core.List.{List, [], _∷_}
 use Prim.Native.Nat.{ℕ, zero, suc, pred, _+_, _*_, _≤_, _<_, _∣_}
 use native.Mathlib.Nat.{dvd-zero, dvd-add-iff-left, dvd-mul-left-of-dvd}
 use native.Mathlib.Omega.{arith}
-use Rattle.theory.specs.Polynomial.{value}
+use Rattle.theory.specs.Polynomial.{value, derivative}
 use Rattle.theory.specs.Taylor.{taylor}
 use Rattle.theory.specs.inner.Polynomial.{coef, Degree}
 use Rattle.theory.proofs.Polynomials.Arithmetic.{dvd-value}
-use Rattle.theory.proofs.Polynomials.Taylor.{coef-taylor}
+use Rattle.theory.proofs.Polynomials.Taylor.{taylor-constant, coef-taylor}
+use Rattle.theory.proofs.Polynomials.Derivative.{derivative-none, derivative-next}
 
 -- f is value f c, and y − c times this
 unfoldable pub quotient : ℕ → List ℕ → List ℕ
@@ -16,12 +17,21 @@ unfolding value
 quotient c [] = []
 quotient c (a ∷ f) = value f c ∷ quotient c f
 
--- so f(c + k + y) is value f c, and k + y times the quotient there
+-- so f(c + k) is f(c), and k times its value there
+pub quotient-value : (c k : ℕ) (f : List ℕ) → value f (c + k) ≡ value f c + k * value (quotient c f) (c + k)
+unfolding value quotient
+quotient-value c k [] = omega arith
+quotient-value c k (a ∷ f) = rw (quotient-value c k f) (omega arith)
+
+-- and its value at c is the derivative's
+pub quotient-derivative : (c : ℕ) (f : List ℕ) → value (quotient c f) c ≡ value (derivative f) c
+unfolding quotient value
+quotient-derivative c [] = sym (derivative-none c)
+quotient-derivative c (a ∷ f) = ap (λ (x : ℕ). value f c + c * x) (quotient-derivative c f) ∙ sym (derivative-next a f c)
+
+-- f(c + k + y) is value f c, and k + y times the quotient there
 pub quotient-zero : (c k : ℕ) (f : List ℕ) → coef (taylor (c + k) f) 0 ≡ value f c + k * coef (taylor (c + k) (quotient c f)) 0
-unfolding value quotient taylor
-quotient-zero c k [] = omega arith
-quotient-zero c k (a ∷ f) =
-    coef-taylor (c + k) a f 0 ∙ rw (coef-taylor (c + k) (value f c) (quotient c f) 0, quotient-zero c k f) (omega arith)
+quotient-zero c k f = taylor-constant (c + k) f ∙ rw (taylor-constant (c + k) (quotient c f)) (quotient-value c k f)
 
 pub quotient-suc : (c k : ℕ) (f : List ℕ) (i : ℕ)
     → coef (taylor (c + k) f) (suc i) ≡ coef (taylor (c + k) (quotient c f)) i + k * coef (taylor (c + k) (quotient c f)) (suc i)

@@ -71,38 +71,41 @@ module _ (f : List ℤ) (p n : ℕ) (P : Prime p) (some-left : allZero (reduced 
   unfolding reduced
   D-lt = omega (arith, degree-bound-lt p (P .two) (reduced f p n) some-left, length-map f (reduce (p ^ n)))
 
-  -- where everything is a root, so is every digit of g modulo p: p is at most D
+  -- s is below n
+  pub content-below : leastValuation p (reduced f p n) < n
+  content-below = least-valuation-lt p (P .two) (reduced f p n) some-left n (reduced-lt f p n (prime-pos P))
+
+  -- the roots are the zeros of g modulo p^(n − s)
+  pub roots-primitive : roots f p n ≡ zeros (primitive p (reduced f p n)) p (n - leastValuation p (reduced f p n))
+  unfolding roots primitive
+  roots-primitive =
+      let w = reduced f p n in
+      let s = leastValuation p w in
+      let split : s + (n - s) ≡ n = omega (arith, content-below) in
+      ap (zeros w p) (sym split) ∙ zeros-divided w p s (n - s) (prime-pos P) (least-valuation-dvd p (P .two) w)
+
+  -- p divides g at each of them
+  pub root-vanishes : (r : ℕ) → roots f p n r ≡ true → vanishes p (primitive p (reduced f p n)) r ≡ true
+  unfolding vanishes
+  root-vanishes r root =
+      let g = primitive p (reduced f p n) in
+      let e = n - leastValuation p (reduced f p n) in
+      let zero : zeros g p e r ≡ true = sym (ap (λ (S : ℕ → Bool). S r) roots-primitive) ∙ root in
+      let one : p ^ 1 ∣ p ^ e = pow-dvd p (omega (arith, content-below)) in
+      dvd-divides p (value g r) (dvd-trans p (rw (pow-one p) at one) (zero-dvd g p e r zero))
+
+  -- where everything is a root, at every digit
+  pub everything-digits : ((r : ℕ) → r < p ^ n → roots f p n r ≡ true) → (c : ℕ) → c < p → vanishes p (primitive p (reduced f p n)) c ≡ true
+  everything-digits all c l =
+      let big : p ^ 1 ≤ p ^ n = pow-le-pow-right {n = p} (prime-pos P) {i = 1} {j = n} (omega (arith, content-below)) in
+      root-vanishes c (all c (omega (arith, pow-one p, big)))
+
+  -- so p is at most D
   pub everything-most : ((r : ℕ) → r < p ^ n → roots f p n r ≡ true) → p ≤ degreeBound p (reduced f p n)
-  unfolding roots primitive vanishes
   everything-most all =
+      let w = reduced f p n in
       omega (
         arith,
         lagrange p P (degreeBound p w) (primitive p w) (primitive-degree p (P .two) w some-left),
-        passing-all (vanishes p (primitive p w)) p 0 (λ c l b. digit c (omega arith)),
+        passing-all (vanishes p (primitive p w)) p 0 (λ c l b. everything-digits all c (omega arith)),
       )
-    where
-      w : List ℕ
-      w = reduced f p n
-
-      s : ℕ
-      s = leastValuation p w
-
-      low : s < n
-      low = least-valuation-lt p (P .two) w some-left n (reduced-lt f p n (prime-pos P))
-
-      room : p ≤ p ^ n
-      room =
-          let big : p ^ 1 ≤ p ^ n = pow-le-pow-right {n = p} (prime-pos P) {i = 1} {j = n} (omega (arith, low)) in
-          omega (arith, pow-one p, big)
-
-      same : zeros w p n ≡ zeros (primitive p w) p (n - s)
-      same =
-          let split : s + (n - s) ≡ n = omega (arith, low) in
-          ap (zeros w p) (sym split) ∙ zeros-divided w p s (n - s) (prime-pos P) (least-valuation-dvd p (P .two) w)
-
-      digit : (c : ℕ) → c < p → vanishes p (primitive p w) c ≡ true
-      digit c l =
-          let root : zeros (primitive p w) p (n - s) c ≡ true = sym (ap (λ (S : ℕ → Bool). S c) same) ∙ all c (omega (arith, room)) in
-          let one : p ^ 1 ∣ p ^ (n - s) = pow-dvd p (omega (arith, low)) in
-          dvd-divides p (value (primitive p w) c)
-          (dvd-trans p (rw (pow-one p) at one) (zero-dvd (primitive p w) p (n - s) c root))

@@ -7,7 +7,7 @@ use native.Mathlib.Omega.{arith}
 use borrow.Author.Needs.{needs}
 use Rattle.theory.specs.Prime.{Prime}
 use Rattle.theory.proofs.Numbers.Congruence.{cong-refl, cong-trans, cong-mul, cong-mod}
-use Rattle.theory.proofs.Numbers.Euclid.{inverse-step}
+use Rattle.theory.proofs.Numbers.Inverse.{inverse-step}
 use Rattle.solver.proofs.Tables.{product-fits, remainder-le}
 use Rattle.solver.proofs.digits.inverse.Statement.{statement}
 use Rattle.solver.proofs.digits.inverse.Tie as tie
