@@ -84,7 +84,13 @@ fn is_slot(
 }
 
 // Whether the first k slots have the expected classes and marks, and the later ones 77.
-fn same(residues: [i32; 66], levels: [u8; 66], marks: [u8; 66], k: usize, expected: Row) -> bool {
+pub(crate) fn same(
+    residues: [i32; 66],
+    levels: [u8; 66],
+    marks: [u8; 66],
+    k: usize,
+    expected: Row,
+) -> bool {
     let mut i: usize = 0;
     while i < 66 {
         let mut a = 77;

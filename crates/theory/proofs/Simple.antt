@@ -35,6 +35,17 @@ use Rattle.theory.proofs.Mark.{mark-zero-all}
 use Rattle.theory.proofs.Signed.Classes.{signed-class, natural-signed}
 use Rattle.theory.proofs.Signed.Entries.{maximal-list, signed-everything}
 
+module _ (p : ℕ) (g : List ℕ) (c : ℕ) where
+  pub simple-intro : vanishes p g c ≡ true → vanishes p (derivative g) c ≡ false → isSimpleRoot p g c ≡ true
+  unfolding isSimpleRoot
+  simple-intro e d = and-intro (vanishes p g c) (not (vanishes p (derivative g) c)) e (ap not d)
+
+  pub simple-elim : isSimpleRoot p g c ≡ true → (vanishes p g c ≡ true) × (vanishes p (derivative g) c ≡ false)
+  unfolding isSimpleRoot
+  simple-elim h =
+      let slope = vanishes p (derivative g) c in
+      (and-left (vanishes p g c) (not slope) h, not-true slope (and-right (vanishes p g c) (not slope) h))
+
 module _ {f : List ℤ} {p n c : ℕ} (P : Prime p) (D : SimpleDigit f p n c) where
   abbrev g : List ℕ
   g = primitivePart f p n
@@ -46,12 +57,10 @@ module _ {f : List ℤ} {p n c : ℕ} (P : Prime p) (D : SimpleDigit f p n c) wh
   hp = prime-pos P
 
   zero-here : vanishes p g c ≡ true
-  unfolding isSimpleRoot
-  zero-here = and-left (vanishes p g c) (not (vanishes p (derivative g) c)) (D .simple)
+  zero-here = simple-elim p g c (D .simple) .0
 
   slope-here : vanishes p (derivative g) c ≡ false
-  unfolding isSimpleRoot
-  slope-here = not-true (vanishes p (derivative g) c) (and-right (vanishes p g c) (not (vanishes p (derivative g) c)) (D .simple))
+  slope-here = simple-elim p g c (D .simple) .1
 
   -- where all coefficients are zero modulo pⁿ, no digit is simple
   pub simple-left : allZero (reduced f p n) ≡ false
@@ -106,7 +115,7 @@ module _ {f : List ℤ} {p n c : ℕ} (P : Prime p) (D : SimpleDigit f p n c) wh
       rw (roots-are, one)
       (dvd-zero-at g p 1 r (rw (pow-one p) (cong-dvd (cong-argument g (cong-mod p r)) (divides-dvd p (value g (r % p)) at))))
 
-  usual-some : isExceptional f p n ≡ false → ¬ Everything (roots f p n) p n
+  pub usual-some : isExceptional f p n ≡ false → ¬ Everything (roots f p n) p n
   unfolding isExceptional primitivePart
   usual-some h all = go (decLt 1 (n - s))
     where
@@ -159,16 +168,13 @@ module _ (f : List ℤ) {p n : ℕ} (P : Prime p) (d : Class) (k : IsClass p n d
       not-holding (allZero (reduced f p n)) (λ z. omega (arith, m, mark-all-zero (reduced f p n) p n (prime-pos P) z d))
 
   pub mark-one-simple : (r : ℕ) → Member p n d r → roots f p n r ≡ true → SimpleDigit f p n (r % p)
-  unfolding isSimpleRoot primitivePart mark
+  unfolding primitivePart mark
   mark-one-simple r member root =
       let g = primitive p (reduced f p n) in
       let down : Congruent p (r % p) r = cong-mod p r in
       record {
         digit = mod-lt r (prime-pos P);
         simple =
-            and-intro (vanishes p g (r % p)) (not (vanishes p (derivative g) (r % p)))
-            (vanishes-periodic p g (r % p) r down ∙ root-vanishes f p n P mark-one-left r root)
-            (ap not
-            (vanishes-periodic p (derivative g) (r % p) r down
-            ∙ mark-one-none (reduced f p n) p n (prime-pos P) d k m r member));
+            simple-intro p g (r % p) (vanishes-periodic p g (r % p) r down ∙ root-vanishes f p n P mark-one-left r root)
+            (vanishes-periodic p (derivative g) (r % p) r down ∙ mark-one-none (reduced f p n) p n (prime-pos P) d k m r member);
       }

@@ -1,22 +1,21 @@
 -- s and the simple digits, told by the coefficients of f as they were given: p^s is the largest power of p that divides them all, and c is
 -- simple exactly if p^(s + 1) divides f(c) and not f'(c).
-use mathlib.Core.Path.{_≡_, sym, ap, subst₂}
+use mathlib.Core.Path.{_≡_, sym, subst₂}
 use mathlib.Core.Logic.{_⊎_, inl, inr, _↔_}
-use mathlib.Core.Bool.{true, false, not}
+use mathlib.Core.Bool.{true, false}
 use mathlib.Core.List.{List, map}
 use Prim.Native.Nat.{ℕ, suc, _*_, _^_, _≤_, _<_, _∣_}
 use native.Mathlib.Nat.{pow-suc, dvd-zero, dvd-trans, mul-dvd-mul-left, dvd-of-mul-dvd-mul-left}
 use native.Mathlib.Decide.{decLt}
 use native.Mathlib.Omega.{arith}
-use borrow.Author.Tests.{not-true}
 use lib.IntN.{ℤ}
 use Rattle.theory.specs.Lists.{In}
 use Rattle.theory.specs.Prime.{Prime}
 use Rattle.theory.specs.Polynomial.{reduce, reduced, value, vanishes, derivative, valueℤ, derivativeℤ, Multiple}
 use Rattle.theory.specs.Degree.{leastValuation, degreeBound, allZero, primitive}
-use Rattle.theory.specs.Simple.{contentValuation, primitivePart, isSimpleRoot, SimpleDigit, Contentℤ, SimpleDigitℤ}
+use Rattle.theory.specs.Simple.{contentValuation, primitivePart, SimpleDigit, Contentℤ, SimpleDigitℤ}
 use Rattle.theory.specs.inner.Polynomial.{coef}
-use Rattle.theory.proofs.Tests.{contradiction, and-left, and-right, and-intro, not-holding}
+use Rattle.theory.proofs.Tests.{contradiction, not-holding}
 use Rattle.theory.proofs.Lists.Index.{index-of}
 use Rattle.theory.proofs.Lists.Map.{in-map, map-in}
 use Rattle.theory.proofs.Numbers.Power.{pow-pos, pow-dvd}
@@ -29,6 +28,7 @@ use Rattle.theory.proofs.Polynomials.Primitive.{value-primitive, deriva
 use Rattle.theory.proofs.Polynomials.Highest.{coef-in, all-zero-coef}
 use Rattle.theory.proofs.Polynomials.Roots.{content-below}
 use Rattle.theory.proofs.Polynomials.Signed.{derivative-same, value-multiple}
+use Rattle.theory.proofs.Simple.{simple-intro, simple-elim}
 
 module _ (f : List ℤ) (p n : ℕ) (P : Prime p) where
   hp : 0 < p
@@ -117,11 +117,11 @@ module _ (f : List ℤ) (p n : ℕ) (P : Prime p) where
           (λ e. q .1 (subst₂ (λ (a b : ℕ). a ∣ b) (sym (pow-suc p s)) (sym times) (mul-dvd-mul-left p (p ^ s) (divides-dvd p x e)))),
         )
 
-    value-told : Multiple (p ^ suc s) (valueℤ f c) ↔ (vanishes p g c ≡ true)
+    pub value-told : Multiple (p ^ suc s) (valueℤ f c) ↔ (vanishes p g c ≡ true)
     unfolding reduced
     value-told = told f w g (λ i. cong-refl) (value-primitive p (P .two) w c)
 
-    derivative-told : Multiple (p ^ suc s) (valueℤ (derivativeℤ f) c) ↔ (vanishes p (derivative g) c ≡ true)
+    pub derivative-told : Multiple (p ^ suc s) (valueℤ (derivativeℤ f) c) ↔ (vanishes p (derivative g) c ≡ true)
     unfolding reduced
     derivative-told =
         told (derivativeℤ f) (derivative w) (derivative g) (derivative-same (p ^ n) hm f)
@@ -129,17 +129,16 @@ module _ (f : List ℤ) (p n : ℕ) (P : Prime p) where
 
     -- a digit is simple exactly if p^(s + 1) divides f(c) and not f'(c)
     pub simple-digit-integers : c < p → SimpleDigit f p n c ↔ SimpleDigitℤ f p (contentValuation f p n) c
-    unfolding contentValuation primitivePart isSimpleRoot
+    unfolding contentValuation primitivePart
     simple-digit-integers l = (
       (λ D.
-          let z = and-left (vanishes p g c) (not (vanishes p (derivative g) c)) (D .simple) in
-          let d = and-right (vanishes p g c) (not (vanishes p (derivative g) c)) (D .simple) in
-          record { zero = value-told .1 z; simple = λ k. contradiction (derivative-told .0 k) (not-true (vanishes p (derivative g) c) d) }),
+          let (z, d) = simple-elim p g c (D .simple) in
+          record { zero = value-told .1 z; simple = λ k. contradiction (derivative-told .0 k) d }),
       (λ I.
           record {
             digit = l;
             simple =
-                and-intro (vanishes p g c) (not (vanishes p (derivative g) c)) (value-told .0 (I .zero))
-                (ap not (not-holding (vanishes p (derivative g) c) (λ e. I .simple (derivative-told .1 e))));
+                simple-intro p g c (value-told .0 (I .zero))
+                (not-holding (vanishes p (derivative g) c) (λ e. I .simple (derivative-told .1 e)));
           }),
     )

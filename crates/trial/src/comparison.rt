@@ -3,6 +3,7 @@ use crate::bound;
 use crate::coefficients::Polynomial;
 use crate::content;
 use crate::library;
+use crate::lifts;
 use crate::listed;
 use crate::live;
 use crate::mapped;
@@ -93,7 +94,8 @@ pub(crate) fn run(polynomial: Polynomial, x: Modulus, mut tally: Tally) -> Tally
     let c = polynomial.c;
     let f = polynomial.f;
     let g = polynomial.g;
-    let h = content::divided(g, content::common_power(g, x));
+    let q = content::common_power(g, x);
+    let h = content::divided(g, q);
     let roots = plain::find_roots(g, c, x.m);
     let s = library::solve(f, c, x);
     let list = s.residues;
@@ -107,6 +109,7 @@ pub(crate) fn run(polynomial: Polynomial, x: Modulus, mut tally: Tally) -> Tally
     tally = tally.compare(tally::ROOTS, s.roots == roots.count as u64);
     tally = tally.compare(tally::LIVE, s.live == live::count(g, c, x) as u64);
     tally = tally.compare(tally::BOUND, bound::holds(h, x, k, s.live));
+    tally = lifts::compare(h, c, q, x, roots, s, tally);
     tally = tally.compare(tally::TEST, library::test(f, c, x, x.m) == 2);
     tally = tally.compare(
         tally::NEXT,

@@ -4,7 +4,7 @@ use std::num::wrapping_add_u64;
 
 // The number of comparisons of each kind, and after it the number of differences.
 pub(crate) struct Tally {
-    pub(crate) counts: [u64; 32],
+    pub(crate) counts: [u64; 36],
 }
 
 // The kinds, as places in the table.
@@ -34,19 +34,23 @@ pub(crate) const LIVE: usize = 20;
 
 pub(crate) const BOUND: usize = 22;
 
-pub(crate) const NEXT: usize = 24;
+pub(crate) const LIFTS: usize = 24;
 
-pub(crate) const MAP: usize = 26;
+pub(crate) const LIFTED: usize = 26;
 
-pub(crate) const ONES: usize = 28;
+pub(crate) const NEXT: usize = 28;
 
-const DIFFERENCES: usize = 30;
+pub(crate) const MAP: usize = 30;
+
+pub(crate) const ONES: usize = 32;
+
+const DIFFERENCES: usize = 34;
 
 impl Tally {
     // x more at a place.
     pub(crate) fn add(self, i: usize, x: u64) -> Tally {
         let mut counts = self.counts;
-        if i < 32 {
+        if i < 36 {
             counts[i] = wrapping_add_u64(counts[i], x);
         }
         Tally { counts }
@@ -56,15 +60,15 @@ impl Tally {
     pub(crate) fn compare(self, kind: usize, same: bool) -> Tally {
         let differ = !same as u64;
         self.add(kind, 1)
-            .add(kind % 32 + 1, differ)
+            .add(kind % 36 + 1, differ)
             .add(DIFFERENCES, differ)
     }
 
     // Prints a byte of the form: the number at a place for #. The place after it.
     fn put(self, b: u8, place: usize) -> usize {
         if b == b'#' {
-            io::print_decimal(STDOUT_FILENO, self.counts[place % 32]);
-            return place % 32 + 1;
+            io::print_decimal(STDOUT_FILENO, self.counts[place % 36]);
+            return place % 36 + 1;
         }
         io::write_all(STDOUT_FILENO, &[b]);
         place
@@ -85,6 +89,8 @@ member of one class at most: # compared, # differ
 root count: # compared, # differ
 number of live classes: # compared, # differ
 at most D classes and 1 + n * D live classes: # compared, # differ
+roots above a simple digit: # compared, # differ
+class of a simple digit: # compared, # differ
 next root: # compared, # differ
 bit of the map: # compared, # differ
 count of the map: # compared, # differ
