@@ -25,9 +25,9 @@ use Rattle.theory.proofs.Simple.{mark-above, mark-not-zero, mark-one-simple}
 use Rattle.theory.proofs.SimpleIntegers.{content-only, simple-digit-integers}
 use Rattle.stepping.specs.Call.{Input, Accepted, firstMarks}
 use Rattle.stepping.proofs.Accept.{accepted-usable}
-use Rattle.stepping.proofs.Demand.{third-demand}
+use Rattle.stepping.proofs.Demand.{slots-are, list-length, third-demand}
 use Rattle.lifting.specs.Lifting.{LiftsAlone, EverythingListed, Lifts, exponent, isLift, classIn}
-use Rattle.lifting.proofs.Slots.{slots-are, number, class-is, slot-of, level-in, mark-in, class-fits, member-root}
+use Rattle.lifting.proofs.Slots.{class-is, slot-of, level-in, mark-in, class-fits, member-root}
 
 one-or-two : (m : ℕ) → m ≤ 2 → ¬ (m ≡ 0) → (m ≡ 1) ⊎ (m ≡ 2)
 one-or-two zero h none = absurd (none refl)
@@ -125,7 +125,7 @@ module _ (x : Input) {k roots-found : ℕ} (A : Accepted x k roots-found) where
             with-slot i low (holds-here a one i low at) (λ _. alone-here a one i low at) (λ w. absurd (contradiction w h))
         go true h =
             let list = exceptional-list prime D h in
-            let low : 0 < k = omega (arith, number x A, ap length list) in
+            let low : 0 < k = omega (arith, list-length x A, ap length list) in
             let at : classIn x k 0 ≡ class 0 0 =
             class-is x A 0 ∙ ap (λ (l : List SignedClass). natural (x .p) (signedSlot l 0)) list ∙ class-equal (zero-mod (x .p ^ 0)) refl in
             with-slot 0 low (λ r l u. holds-all low at r l) (λ w. absurd (contradiction h w))

@@ -45,13 +45,13 @@ module _ (x : Input) {k roots-found : ℕ} (A : Accepted x k roots-found) where
   hp : 0 < x .p
   hp = omega (arith, two)
 
-  slots-are : firstSlots x k ≡ L
+  pub slots-are : firstSlots x k ≡ L
   unfolding solution
   slots-are = first-slots x A
 
-  number : length L ≡ k
+  pub list-length : length L ≡ k
   unfolding solution
-  number = sym (accepted-number x A)
+  list-length = sym (accepted-number x A)
 
   on-list : SignedDemand S (x .p) (x .n) (firstSlots x k)
   on-list = rw slots-are (signed-demand S (x .p) (x .n) two)
@@ -67,16 +67,16 @@ module _ (x : Input) {k roots-found : ℕ} (A : Accepted x k roots-found) where
   pub third-demand : Demand x k
   third-demand =
       record {
-        slots = ap length slots-are ∙ number;
+        slots = ap length slots-are ∙ list-length;
         rival = on-list .rival;
-        shortest = λ R r. omega (arith, number, ap length slots-are, on-list .shortest-of-all R r);
-        alone = λ R r e. on-list .alone R r (e ∙ sym (ap length slots-are ∙ number));
+        shortest = λ R r. omega (arith, list-length, ap length slots-are, on-list .shortest-of-all R r);
+        alone = λ R r e. on-list .alone R r (e ∙ sym (ap length slots-are ∙ list-length));
         disjoint = λ i j hi hj.
-            on-list .disjoint i j (omega (arith, number, ap length slots-are)) (omega (arith, number, ap length slots-are));
+            on-list .disjoint i j (omega (arith, list-length, ap length slots-are)) (omega (arith, list-length, ap length slots-are));
         at-most-D = λ z.
             omega (
               arith,
-              number,
+              list-length,
               signed-length S (x .p) (x .n) hp,
               at-most-D (x .f) (x .p) (x .n) (accepted-usable x A .prime) z,
             );
