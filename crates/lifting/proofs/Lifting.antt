@@ -4,7 +4,7 @@ use mathlib.Core.Logic.{_⊎_, inl, inr}
 use mathlib.Core.Bool.{Bool, true, false}
 use mathlib.Core.List.{List}
 use Prim.Native.Nat.{ℕ, zero, suc, _-_, _%_, _^_, _≤_, _<_}
-use native.Mathlib.Nat.{mod-eq-of-lt, mod-one, zero-mod, pow-zero, pow-le-pow-right}
+use native.Mathlib.Nat.{mod-eq-of-lt, mod-one, zero-mod, pow-zero, lt-of-lt-of-le}
 use native.Mathlib.Omega.{arith}
 use lib.ListN.{length, getD}
 use Rattle.theory.specs.Prime.{Prime}
@@ -14,7 +14,7 @@ use Rattle.theory.specs.SignedClass.{SignedClass, signed, natural, signedSlot}
 use Rattle.theory.specs.Mark.{mark}
 use Rattle.theory.specs.Simple.{SimpleDigit, Contentℤ, SimpleDigitℤ, isExceptional}
 use Rattle.theory.proofs.Tests.{contradiction}
-use Rattle.theory.proofs.Numbers.Power.{pow-one}
+use Rattle.theory.proofs.Numbers.Power.{base-le}
 use Rattle.theory.proofs.Numbers.Prime.{prime-pos}
 use Rattle.theory.proofs.Classes.Equal.{class-equal}
 use Rattle.theory.proofs.Classes.OneAbove.{OneAbove, above-intro, above-elim}
@@ -106,8 +106,7 @@ module _ (x : Input) {k roots-found : ℕ} (A : Accepted x k roots-found) where
       mark-all : (getD (firstMarks x k) 0 0 ≡ 1) ⊎ (getD (firstMarks x k) 0 0 ≡ 2)
       mark-all =
           let d = classIn x k 0 in
-          let room : x .p ^ 1 ≤ x .p ^ x .n = pow-le-pow-right (prime-pos prime) (omega (arith, s-below)) in
-          let member = holds-all c (omega (arith, room, pow-one (x .p), D .digit)) in
+          let member = holds-all c (lt-of-lt-of-le (D .digit) (base-le (x .p) (prime-pos prime) (omega (arith, s-below)))) in
           rw (mark-in x A 0 low)
           (one-or-two (mark (x .f) (x .p) (x .n) d) (mark-most (x .f) (x .p) (x .n) d (prime-pos prime))
           (mark-not-zero prime D d (class-fits x A 0 low) c member (mod-eq-of-lt (D .digit))))

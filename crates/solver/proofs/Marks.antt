@@ -16,7 +16,7 @@ use Rattle.theory.specs.Degree.{allZero, primitive}
 use Rattle.theory.specs.SignedClass.{SignedClass, natural}
 use Rattle.theory.specs.Mark.{markBy, markOf}
 use Rattle.theory.specs.inner.Polynomial.{coef}
-use Rattle.theory.proofs.Numbers.Power.{pow-pos, pow-one, pow-dvd}
+use Rattle.theory.proofs.Numbers.Power.{pow-pos, base-dvd}
 use Rattle.theory.proofs.Numbers.Congruence.{Congruent}
 use Rattle.theory.proofs.Numbers.Reduction.{reduce-lt, reduce-down}
 use Rattle.theory.proofs.Polynomials.Derivative.{coef-derivative}
@@ -88,7 +88,7 @@ mark-residues p g d n r c =
 -- a residue modulo p^t is the one modulo p, for t at least 1
 residue-digit : (p t : ℕ) → 0 < p → 0 < t → (z : ℤ) → Congruent p (reduce (p ^ t) z) (reduce p z)
 residue-digit p t hp ht z =
-    let d : p ∣ p ^ t = rw (pow-one p) at (pow-dvd p {t = 1} {n = t} ht) in
+    let d : p ∣ p ^ t = base-dvd p ht in
     record { same = reduce-down p (p ^ t) hp (pow-pos p hp t) d z ∙ sym (mod-eq-of-lt (reduce-lt p hp z)) }
 
 -- and of g = f / p^s it gives the mark over all members

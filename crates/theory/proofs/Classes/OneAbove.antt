@@ -14,7 +14,7 @@ use Rattle.theory.specs.Class.{Class, class, IsClass, Contains, isMember
 use Rattle.theory.specs.Shortest.{isWhole, count, Maximal}
 use Rattle.theory.specs.Simple.{isAbove}
 use Rattle.theory.proofs.Tests.{same-test, and-left, and-right, and-intro, not-holding}
-use Rattle.theory.proofs.Numbers.Power.{pow-pos, pow-dvd, pow-one}
+use Rattle.theory.proofs.Numbers.Power.{pow-pos, pow-one, base-dvd}
 use Rattle.theory.proofs.Range.{passing-same}
 use Rattle.theory.proofs.Classes.Members.{member-congruent, congruent-member}
 use Rattle.theory.proofs.Classes.Whole.{whole-elim, whole-intro}
@@ -104,7 +104,7 @@ module _ {S : ℕ → Bool} {p n c e a : ℕ} (two : 2 ≤ p) (O : OneAbove S p 
           let big : p ^ suc t ≤ p ^ e = pow-le-pow-right {n = p} hp {i = suc t} {j = e} low in
           let fits : b + q < p ^ e = omega (arith, k .residue-fits, next, big, mul-le-mul-right q two) in
           let room : p ^ e ≤ p ^ n = wide e (O .is-class .level-fits) in
-          let step : p ∣ q = rw (pow-one p) at (pow-dvd p {t = 1} {n = t} h) in
+          let step : p ∣ q = base-dvd p h in
           let a-in : a % q ≡ b = contains a (own-member p n hp (class a e) (O .is-class)) .congruent in
           let near : (r : ℕ) → r % q ≡ b → r % p ≡ c =
           λ r u. sym (mod-mod-of-dvd p r step) ∙ ap (λ (x : ℕ). x % p) (u ∙ sym a-in) ∙ mod-mod-of-dvd p a step ∙ own .1 in

@@ -3,13 +3,13 @@
 use mathlib.Core.Path.{_≡_, sym, ap, _∙_}
 use mathlib.Core.Bool.{Bool}
 use Prim.Native.Nat.{ℕ, zero, suc, _+_, _-_, _*_, _%_, _^_, _≤_, _<_}
-use native.Mathlib.Nat.{add-mul-mod-self-right, mod-lt, pow-suc, pow-zero, pow-le-pow-right}
+use native.Mathlib.Nat.{add-mul-mod-self-right, mod-lt, pow-suc, pow-zero}
 use native.Mathlib.Omega.{arith}
 use Rattle.theory.specs.Range.{allBelow}
 use Rattle.theory.specs.Class.{Class, class}
 use Rattle.theory.specs.Shortest.{isWhole}
 use Rattle.theory.proofs.Tests.{same-test}
-use Rattle.theory.proofs.Numbers.Power.{pow-pos, pow-one}
+use Rattle.theory.proofs.Numbers.Power.{pow-pos, base-le}
 use Rattle.theory.proofs.Numbers.Congruence.{Congruent, cong-refl, cong-sym, cong-trans, cong-add, cong-mod}
 use Rattle.theory.proofs.Range.{all-elim, all-intro, all-constant}
 
@@ -58,6 +58,4 @@ module _ (S : ℕ → Bool) (p n : ℕ) (hp : 0 < p) (periodic : Periodic S p) w
       at i = ap S (rw (pow-zero p) (omega arith))
 
       room : p ≤ p ^ (n - 0)
-      room =
-          let big : p ^ 1 ≤ p ^ (n - 0) = pow-le-pow-right {n = p} hp {i = 1} {j = n - 0} (omega arith) in
-          omega (arith, pow-one p, big)
+      room = base-le p hp (omega arith)

@@ -14,7 +14,7 @@ use Rattle.theory.specs.Degree.{primitive}
 use Rattle.theory.specs.Class.{Class, class}
 use Rattle.theory.specs.Live.{classPolynomial, liveDigits, childAt, sumOver, liveFrom, liveOf}
 use Rattle.theory.specs.inner.Polynomial.{coef}
-use Rattle.theory.proofs.Numbers.Power.{pow-pos, pow-dvd, pow-one}
+use Rattle.theory.proofs.Numbers.Power.{pow-pos, base-dvd}
 use Rattle.theory.proofs.Numbers.Congruence.{Congruent, cong-refl, cong-trans, cong-of-eq, cong-down, cong-dvd, mod-times}
 use Rattle.theory.proofs.Polynomials.Arithmetic.{coef-scale, coef-divided, coef-modulo}
 use Rattle.theory.proofs.Polynomials.Congruence.{SameModulo, same-residues, vanishes-same}
@@ -143,7 +143,7 @@ module _ (p : ℕ) (two : 2 ≤ p) where
 
       same : SameModulo p H h
       same i =
-          cong-down (rw (pow-one p) at (pow-dvd p {t = 1} {n = e} pos))
+          cong-down (base-dvd p pos)
           (cong-trans (same-residues (p ^ e) (at h (class 0 0)) i) (cong-of-eq (at-everything h i)))
 
       stays : ¬ (p ∣ coef H j)

@@ -19,6 +19,13 @@ pow-split p {t} {n} h = ap (λ (x : ℕ). p ^ x) (omega arith) ∙ pow-add p (n 
 pub pow-dvd : (p : ℕ) {t n : ℕ} → t ≤ n → p ^ t ∣ p ^ n
 pow-dvd p {t} {n} h = rw (pow-split p h) (dvd-mul-left (p ^ t) (p ^ (n - t)))
 
+-- p divides each power from the first on, and is no more
+pub base-dvd : (p : ℕ) {e : ℕ} → 0 < e → p ∣ p ^ e
+base-dvd p {e} h = rw (pow-one p) at (pow-dvd p {t = 1} {n = e} h)
+
+pub base-le : (p : ℕ) → 0 < p → {e : ℕ} → 0 < e → p ≤ p ^ e
+base-le p hp {e} h = let big : p ^ 1 ≤ p ^ e = pow-le-pow-right {n = p} hp {i = 1} {j = e} h in rw (pow-one p) at big
+
 pub pow-lt : (p : ℕ) → 2 ≤ p → {l m : ℕ} → l < m → p ^ l < p ^ m
 pow-lt p two {l} {m} h =
     omega (arith, pow-le-pow-right {n = p} (omega arith) h, pow-succ' p l, mul-le-mul-right (p ^ l) two, one-le-pow l p (omega arith))

@@ -9,7 +9,7 @@ use native.Mathlib.Decide.{decLe}
 use native.Mathlib.Omega.{arith}
 use Rattle.theory.specs.Prime.{Prime}
 use Rattle.theory.specs.Polynomial.{value, derivative}
-use Rattle.theory.proofs.Numbers.Power.{pow-pos, pow-one, pow-dvd}
+use Rattle.theory.proofs.Numbers.Power.{pow-pos, pow-one, base-dvd}
 use Rattle.theory.proofs.Numbers.Prime.{prime-pos}
 use Rattle.theory.proofs.Numbers.Euclid.{euclid-power}
 use Rattle.theory.proofs.Numbers.Inverse.{linear-solution}
@@ -21,9 +21,6 @@ use Rattle.theory.proofs.Polynomials.Quotient.{quotient, quotient-value
 module _ (p : ℕ) (P : Prime p) (g : List ℕ) (c : ℕ) (simple : ¬ (p ∣ value (derivative g) c)) where
   hp : 0 < p
   hp = prime-pos P
-
-  p-dvd : (e : ℕ) → 0 < e → p ∣ p ^ e
-  p-dvd e h = rw (pow-one p) at (pow-dvd p {t = 1} {n = e} h)
 
   -- above c the quotient (g(r + k) − g(r)) / k is g'(c) modulo p
   slope : (r k : ℕ) → Congruent p r c → p ∣ k → Congruent p (value (quotient r g) (r + k)) (value (derivative g) c)
@@ -62,7 +59,7 @@ module _ (p : ℕ) (P : Prime p) (g : List ℕ) (c : ℕ) (simple : ¬ (p ∣ va
     next =
         let w = value g u / m in
         let (y, s) = linear-solution p P (value (derivative g) c) w simple in
-        let step : p ∣ m * y = dvd-mul-right-of-dvd p (p-dvd e deep) y in
+        let step : p ∣ m * y = dvd-mul-right-of-dvd p (base-dvd p deep) y in
         let q = value (quotient u g) (u + m * y) in
         let lifted : p ∣ w + y * q =
         cong-dvd (cong-add cong-refl (cong-mul cong-refl (cong-sym (slope u (m * y) near step)))) s in
@@ -96,6 +93,6 @@ module _ (p : ℕ) (P : Prime p) (g : List ℕ) (c : ℕ) (simple : ¬ (p ∣ va
               (λ k. zeros-congruent (suc e) r u (k .1) near (k .0) d .same),
               (λ q.
                   let same : Congruent m u r = record { same = sym q } in
-                  (cong-dvd (cong-argument g same) d, cong-trans (cong-sym (cong-down (p-dvd (suc e) deep) same)) near)),
+                  (cong-dvd (cong-argument g same) d, cong-trans (cong-sym (cong-down (base-dvd p deep) same)) near)),
             )),
           )

@@ -2,8 +2,8 @@
 use mathlib.Core.Path.{_≡_, sym, ap, _∙_}
 use mathlib.Core.Bool.{Bool, true, false}
 use mathlib.Core.List.{List, [], _∷_}
-use Prim.Native.Nat.{ℕ, _+_, _-_, _^_, _≤_, _<_, _∣_}
-use native.Mathlib.Nat.{dvd-trans, pow-le-pow-right}
+use Prim.Native.Nat.{ℕ, _+_, _-_, _^_, _≤_, _<_}
+use native.Mathlib.Nat.{dvd-trans, lt-of-lt-of-le}
 use native.Mathlib.Omega.{arith}
 use lib.IntN.{ℤ}
 use lib.ListN.{length, length-map}
@@ -16,7 +16,7 @@ use Rattle.theory.specs.inner.Tree.{tree}
 use Rattle.theory.proofs.Lists.Names.{in-nil}
 use Rattle.theory.proofs.Lists.Map.{in-map}
 use Rattle.theory.proofs.Lists.Permutation.{perm-length}
-use Rattle.theory.proofs.Numbers.Power.{pow-pos, pow-one, pow-dvd}
+use Rattle.theory.proofs.Numbers.Power.{pow-pos, base-dvd, base-le}
 use Rattle.theory.specs.Prime.{Prime}
 use Rattle.theory.proofs.Numbers.Prime.{prime-pos, dvd-divides}
 use Rattle.theory.proofs.Numbers.Reduction.{reduce-lt}
@@ -91,14 +91,12 @@ module _ (f : List ℤ) (p n : ℕ) (P : Prime p) (some-left : allZero (reduced 
       let g = primitive p (reduced f p n) in
       let e = n - leastValuation p (reduced f p n) in
       let zero : zeros g p e r ≡ true = sym (ap (λ (S : ℕ → Bool). S r) roots-primitive) ∙ root in
-      let one : p ^ 1 ∣ p ^ e = pow-dvd p (omega (arith, content-below)) in
-      dvd-divides p (value g r) (dvd-trans p (rw (pow-one p) at one) (zero-dvd g p e r zero))
+      dvd-divides p (value g r) (dvd-trans p (base-dvd p (omega (arith, content-below))) (zero-dvd g p e r zero))
 
   -- where everything is a root, at every digit
   pub everything-digits : ((r : ℕ) → r < p ^ n → roots f p n r ≡ true) → (c : ℕ) → c < p → vanishes p (primitive p (reduced f p n)) c ≡ true
   everything-digits all c l =
-      let big : p ^ 1 ≤ p ^ n = pow-le-pow-right {n = p} (prime-pos P) {i = 1} {j = n} (omega (arith, content-below)) in
-      root-vanishes c (all c (omega (arith, pow-one p, big)))
+      root-vanishes c (all c (lt-of-lt-of-le l (base-le p (prime-pos P) (omega (arith, content-below)))))
 
   -- so p is at most D
   pub everything-most : ((r : ℕ) → r < p ^ n → roots f p n r ≡ true) → p ≤ degreeBound p (reduced f p n)

@@ -12,7 +12,7 @@ use Rattle.theory.specs.Polynomial.{value, zeros, divided}
 use Rattle.theory.specs.Degree.{allZero}
 use Rattle.theory.specs.inner.Tree.{branch}
 use Rattle.theory.proofs.Tests.{same-test, not-holding}
-use Rattle.theory.proofs.Numbers.Power.{pow-pos, pow-one, pow-dvd}
+use Rattle.theory.proofs.Numbers.Power.{pow-pos, base-dvd}
 use Rattle.theory.proofs.Numbers.Prime.{divides-dvd, dvd-divides}
 use Rattle.theory.proofs.Numbers.Congruence.{cong-dvd}
 use Rattle.theory.specs.Taylor.{shifted}
@@ -53,7 +53,7 @@ pub no-zero-below : (f : List ℕ) (p e c : ℕ) → 0 < e → ¬ (p ∣ value f
 no-zero-below f p e c h none y =
     not-holding (zeros f p e (c + p * y)) (λ u.
     none (cong-dvd (cong-argument f (record { same = add-mul-mod-self-left c p y }))
-    (dvd-trans p (rw (pow-one p) at (pow-dvd p {t = 1} {n = e} h)) (zero-dvd f p e (c + p * y) u))))
+    (dvd-trans p (base-dvd p h) (zero-dvd f p e (c + p * y) u))))
 
 -- modulo p^0 everything is a zero
 pub zeros-everything : (f : List ℕ) (p y : ℕ) → zeros f p 0 y ≡ true
