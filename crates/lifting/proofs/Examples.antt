@@ -14,10 +14,10 @@ use Rattle.solver.specs.Solve.{lists, solution, solverVerdict, solvedOf}
 use Rattle.stepping.specs.Call.{Input, Accepted}
 use Rattle.lifting.specs.Lifting.{Lifts}
 use Rattle.lifting.proofs.Lifting.{simple-roots-lift}
-use Rattle.lifting.specs.Examples.{outcome, squarePlusOne, threeTimes, doubleRoot, exceptionalCase, expected}
+use Rattle.lifting.specs.Examples.{Case, outcome, table}
 
-pub simple-cases : map outcome (squarePlusOne ∷ threeTimes ∷ doubleRoot ∷ exceptionalCase ∷ []) ≡ expected
-unfolding outcome expected
+pub simple-cases : map (λ (c : Case). outcome (c .given)) table ≡ map (λ (c : Case). c .expected) table
+unfolding table outcome
 simple-cases = refl
 
 -- x² + 1 modulo 25, with two slots in each list, and the digit 2

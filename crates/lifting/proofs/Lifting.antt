@@ -130,8 +130,7 @@ module _ (x : Input) {k roots-found : ℕ} (A : Accepted x k roots-found) where
             with-slot 0 low (λ r l u. holds-all low at r l) (λ w. absurd (contradiction h w))
             (λ _. record { list = slots-are x A ∙ list; mark = mark-all low at })
 
-  -- the same by the coefficients as they were given: p^s is the largest power of p that divides them all, and p^(s + 1) divides f(c) and not
-  -- f'(c)
+  -- the same by the coefficients as given: p^s is the largest power of p that divides them all, and p^(s + 1) divides f(c) and not f'(c)
   pub simple-roots-lift-integers : (s c : ℕ) → s < x .n → Contentℤ (x .f) (x .p) s → c < x .p → SimpleDigitℤ (x .f) (x .p) s c
       → (exponent x ≡ s) × Lifts x k c
   simple-roots-lift-integers s c low C l I =

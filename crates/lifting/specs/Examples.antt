@@ -1,8 +1,8 @@
--- Polynomials with their simple digits, s, the number of roots above each digit, and the list (02, 2.14).
+-- Polynomials with their simple digits, s, the number of roots above each digit, the list, and whether it is the exception (02, 2.14).
 use mathlib.Core.Bool.{Bool, true, false}
 use mathlib.Core.List.{List, [], _∷_, map}
 use Prim.Native.Nat.{ℕ}
-use lib.IntN.{pos, negsuc}
+use lib.IntN.{ℤ, pos, negsuc}
 use Rattle.theory.specs.Range.{passing}
 use Rattle.theory.specs.Polynomial.{roots}
 use Rattle.theory.specs.Shortest.{count}
@@ -32,44 +32,25 @@ outcome c =
       exceptional = isExceptional (c .f) (c .p) (c .n);
     }
 
--- x² + 1, p = 5, n = 2
-abbrev pub squarePlusOne : Problem
-squarePlusOne = record { f = pos 1 ∷ pos 0 ∷ pos 1 ∷ []; p = 5; n = 2 }
+pub record Case : Type 0 where
+  pub given : Problem
+  pub expected : Outcome
 
--- 3x² − 3, p = 3, n = 3
-abbrev pub threeTimes : Problem
-threeTimes = record { f = negsuc 2 ∷ pos 0 ∷ pos 3 ∷ []; p = 3; n = 3 }
-
--- x³ − x², p = 3, n = 3: 0 is a double root
-abbrev pub doubleRoot : Problem
-doubleRoot = record { f = pos 0 ∷ pos 0 ∷ negsuc 0 ∷ pos 1 ∷ []; p = 3; n = 3 }
-
--- 2x² + 2x, p = 2, n = 2: n − s is 1, and x² + x vanishes at both digits
-abbrev pub exceptionalCase : Problem
-exceptionalCase = record { f = pos 0 ∷ pos 2 ∷ pos 2 ∷ []; p = 2; n = 2 }
-
-unfoldable pub expected : List Outcome
-expected =
+abbrev case : List ℤ → ℕ → ℕ → List ℕ → ℕ → List ℕ → List SignedClass → Bool → Case
+case f p n digits s numbers L b =
     record {
-      digits = 2 ∷ 3 ∷ [];
-      exponent = 0;
-      numbers = 1 ∷ 1 ∷ [];
-      classes = signedClass (negsuc 6) 2 ∷ signedClass (pos 7) 2 ∷ [];
-      exceptional = false;
+      given = record { f = f; p = p; n = n };
+      expected = record { digits = digits; exponent = s; numbers = numbers; classes = L; exceptional = b };
     }
-    ∷ record {
-      digits = 1 ∷ 2 ∷ [];
-      exponent = 1;
-      numbers = 3 ∷ 3 ∷ [];
-      classes = signedClass (negsuc 0) 2 ∷ signedClass (pos 1) 2 ∷ [];
-      exceptional = false;
-    }
-    ∷ record {
-      digits = 1 ∷ [];
-      exponent = 0;
-      numbers = 1 ∷ [];
-      classes = signedClass (pos 0) 2 ∷ signedClass (pos 1) 3 ∷ [];
-      exceptional = false;
-    }
-    ∷ record { digits = 0 ∷ 1 ∷ []; exponent = 1; numbers = 2 ∷ 2 ∷ []; classes = signedClass (pos 0) 0 ∷ []; exceptional = true }
+
+unfoldable pub table : List Case
+table =
+    -- x² + 1, p = 5, n = 2
+    case (pos 1 ∷ pos 0 ∷ pos 1 ∷ []) 5 2 (2 ∷ 3 ∷ []) 0 (1 ∷ 1 ∷ []) (signedClass (negsuc 6) 2 ∷ signedClass (pos 7) 2 ∷ []) false
+    -- 3x² − 3, p = 3, n = 3
+    ∷ case (negsuc 2 ∷ pos 0 ∷ pos 3 ∷ []) 3 3 (1 ∷ 2 ∷ []) 1 (3 ∷ 3 ∷ []) (signedClass (negsuc 0) 2 ∷ signedClass (pos 1) 2 ∷ []) false
+    -- x³ − x², p = 3, n = 3: 0 is a double root
+    ∷ case (pos 0 ∷ pos 0 ∷ negsuc 0 ∷ pos 1 ∷ []) 3 3 (1 ∷ []) 0 (1 ∷ []) (signedClass (pos 0) 2 ∷ signedClass (pos 1) 3 ∷ []) false
+    -- 2x² + 2x, p = 2, n = 2: n − s is 1, and x² + x vanishes at both digits
+    ∷ case (pos 0 ∷ pos 2 ∷ pos 2 ∷ []) 2 2 (0 ∷ 1 ∷ []) 1 (2 ∷ 2 ∷ []) (signedClass (pos 0) 0 ∷ []) true
     ∷ []

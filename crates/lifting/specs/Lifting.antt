@@ -22,7 +22,7 @@ exponent x = contentValuation (x .f) (x .p) (x .n)
 abbrev pub isLift : Input → ℕ → ℕ → Bool
 isLift x c = isAbove (roots (x .f) (x .p) (x .n)) (x .p) c
 
--- the class in slot i of the list, as 01 writes it
+-- the class in slot i of the list, with 01's residue from 0 up
 abbrev pub classIn : Input → (k i : ℕ) → Class
 classIn x k i = natural (x .p) (signedSlot (firstSlots x k) i)
 
@@ -33,7 +33,7 @@ pub record LiftsAlone (x : Input) (k c i : ℕ) : Type 0 where
   pub level : getD (firstLevels x k) i 0 ≡ x .n - exponent x
   pub mark : getD (firstMarks x k) i 0 ≡ 1
 
--- the list is the one class 0/0, and its mark is not 0
+-- the list is the one class 0/0, and its mark is 1 or 2
 pub record EverythingListed (x : Input) (k : ℕ) : Type 0 where
   pub list : firstSlots x k ≡ signedClass (pos 0) 0 ∷ []
   pub mark : (getD (firstMarks x k) 0 0 ≡ 1) ⊎ (getD (firstMarks x k) 0 0 ≡ 2)

@@ -65,6 +65,9 @@ unfolding divided scale
 scale-divided q [] h = refl
 scale-divided q (a ∷ f) h = ap₂ (λ x xs. x ∷ xs) (mul-div-cancel' q (h 0)) (scale-divided q f (λ i. h (suc i)))
 
+pub value-divided : (q : ℕ) (f : List ℕ) → ((i : ℕ) → q ∣ coef f i) → (y : ℕ) → value f y ≡ q * value (divided q f) y
+value-divided q f h y = ap (λ (g : List ℕ). value g y) (sym (scale-divided q f h)) ∙ value-scale q (divided q f) y
+
 pub divided-map : (q : ℕ) (f : List ℕ) → divided q f ≡ map (λ (a : ℕ). a / q) f
 unfolding divided
 divided-map q [] = refl

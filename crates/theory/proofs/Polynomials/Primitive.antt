@@ -16,7 +16,7 @@ use Rattle.theory.specs.Degree.{leastValuation, degreeBound, allZero, pr
 use Rattle.theory.specs.inner.Polynomial.{coef, Degree}
 use Rattle.theory.proofs.Tests.{same-test}
 use Rattle.theory.proofs.Numbers.Power.{pow-pos, pow-dvd, pow-one}
-use Rattle.theory.proofs.Polynomials.Arithmetic.{value-scale, scale-divided, coef-divided, divided-map}
+use Rattle.theory.proofs.Polynomials.Arithmetic.{value-scale, scale-divided, value-divided, coef-divided, divided-map}
 use Rattle.theory.proofs.Polynomials.Derivative.{derivative-scale}
 use Rattle.theory.proofs.Polynomials.Highest.{all-zero-coef, all-zero-intro, all-zero-fails}
 use Rattle.theory.proofs.Polynomials.Degree.{least-valuation-dvd, degree-bound-degree}
@@ -41,8 +41,8 @@ module _ (p : ℕ) (two : 2 ≤ p) (f : List ℕ) where
 
   -- so are its values and those of its derivative
   pub value-primitive : (x : ℕ) → value f x ≡ p ^ leastValuation p f * value (primitive p f) x
-  value-primitive x =
-      ap (λ (h : List ℕ). value h x) (sym scale-primitive) ∙ value-scale (p ^ leastValuation p f) (primitive p f) x
+  unfolding primitive
+  value-primitive = value-divided (p ^ leastValuation p f) f (least-valuation-dvd p two f)
 
   pub derivative-primitive : (x : ℕ) → value (derivative f) x ≡ p ^ leastValuation p f * value (derivative (primitive p f)) x
   derivative-primitive x =

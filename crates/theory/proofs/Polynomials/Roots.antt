@@ -53,6 +53,10 @@ pub all-zero-list : (f : List ℤ) (p n : ℕ) → 2 ≤ p → allZero (reduced 
 all-zero-list f p n two e = everything (roots f p n) p n two (λ r h. all-zero-roots f p n e r)
 
 module _ (f : List ℤ) (p n : ℕ) (P : Prime p) (some-left : allZero (reduced f p n) ≡ false) where
+  -- s is below n
+  pub content-below : leastValuation p (reduced f p n) < n
+  content-below = least-valuation-lt p (P .two) (reduced f p n) some-left n (reduced-lt f p n (prime-pos P))
+
   -- "it has at most D classes"
   pub at-most-D : length (shortest (roots f p n) p n) ≤ degreeBound p (reduced f p n)
   unfolding roots
@@ -61,19 +65,13 @@ module _ (f : List ℤ) (p n : ℕ) (P : Prime p) (some-left : allZero (reduced 
       omega (
         arith,
         perm-length (tree-perm p (prime-pos P) (P .two) (roots f p n) n),
-        tree-at-most p P n n (leastValuation p g) (degreeBound p g) g
-            (least-valuation-lt p (P .two) g some-left n (reduced-lt f p n (prime-pos P)))
-            (degree-bound-degree p (P .two) g some-left),
+        tree-at-most p P n n (leastValuation p g) (degreeBound p g) g content-below (degree-bound-degree p (P .two) g some-left),
       )
 
   -- and D is an index of a coefficient
   pub D-lt : degreeBound p (reduced f p n) < length f
   unfolding reduced
   D-lt = omega (arith, degree-bound-lt p (P .two) (reduced f p n) some-left, length-map f (reduce (p ^ n)))
-
-  -- s is below n
-  pub content-below : leastValuation p (reduced f p n) < n
-  content-below = least-valuation-lt p (P .two) (reduced f p n) some-left n (reduced-lt f p n (prime-pos P))
 
   -- the roots are the zeros of g modulo p^(n − s)
   pub roots-primitive : roots f p n ≡ zeros (primitive p (reduced f p n)) p (n - leastValuation p (reduced f p n))

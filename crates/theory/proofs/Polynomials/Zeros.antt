@@ -1,5 +1,5 @@
 -- The zeros of a polynomial modulo a power of p: below a digit, after a division by p, at 0, and where there are none or all.
-use mathlib.Core.Path.{_≡_, sym, ap, _∙_, subst₂, fun-ext}
+use mathlib.Core.Path.{_≡_, sym, ap, subst₂, fun-ext}
 use mathlib.Core.Bool.{true, false}
 use mathlib.Core.List.{List}
 use Prim.Native.Nat.{ℕ, _+_, _*_, _^_, _<_, _∣_}
@@ -17,7 +17,7 @@ use Rattle.theory.proofs.Numbers.Prime.{divides-dvd, dvd-divides}
 use Rattle.theory.proofs.Numbers.Congruence.{cong-dvd}
 use Rattle.theory.specs.Taylor.{shifted}
 use Rattle.theory.specs.inner.Polynomial.{coef}
-use Rattle.theory.proofs.Polynomials.Arithmetic.{scale-divided, value-scale, value-zero, dvd-value}
+use Rattle.theory.proofs.Polynomials.Arithmetic.{value-divided, value-zero, dvd-value}
 use Rattle.theory.proofs.Polynomials.Taylor.{value-shifted}
 use Rattle.theory.proofs.Polynomials.Congruence.{cong-argument}
 use Rattle.theory.proofs.Polynomials.Highest.{all-zero-coef}
@@ -46,7 +46,7 @@ zeros-divided f p v e hp h =
     (mul-dvd-mul-left (p ^ e) (p ^ v) (zero-dvd (divided (p ^ v) f) p e y u)))))
   where
     times : (y : ℕ) → value f y ≡ p ^ v * value (divided (p ^ v) f) y
-    times y = ap (λ (g : List ℕ). value g y) (sym (scale-divided (p ^ v) f h)) ∙ value-scale (p ^ v) (divided (p ^ v) f) y
+    times = value-divided (p ^ v) f h
 
 -- a digit at which the value is not a multiple of p holds no zero modulo p^e, 0 < e
 pub no-zero-below : (f : List ℕ) (p e c : ℕ) → 0 < e → ¬ (p ∣ value f c) → (y : ℕ) → branch (zeros f p e) p c y ≡ false
