@@ -20,4 +20,6 @@ mod Scanning
 mod Top
 mod Coefficients
 mod Verdicts
+pub mod Testing
+pub mod Walking
 pub mod Answered

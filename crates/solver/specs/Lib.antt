@@ -1,3 +1,4 @@
 -- What the solver and the test of a residue answer.
 pub mod Solve
+pub mod Points
 pub mod inner

@@ -6,3 +6,4 @@ pub mod Sort
 pub mod Recursion
 pub mod Reduced
 pub mod UsablePolynomial
+pub mod Points

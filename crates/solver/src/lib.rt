@@ -1,7 +1,8 @@
 // The solver: the root classes of a polynomial modulo pⁿ, and the test of one residue.
 ghost use mathlib.Core.Path.{_≡_};
 ghost use Rattle.solver.specs.Solve.{lists as listsOf, solvedOf, listsAfter, testedOf};
-ghost use Rattle.solver.specs.inner.UsablePolynomial.{polynomialModulus, UsablePolynomial};
+ghost use Rattle.solver.specs.Points.{testedAllOf, queriesAfter};
+ghost use Rattle.solver.specs.inner.UsablePolynomial.{polynomialModulus};
 use numbers::Modulus;
 use refusal::Refusal;
 
@@ -10,6 +11,7 @@ mod differences;
 mod digits;
 mod lists;
 mod mark;
+mod points;
 mod polynomial;
 mod reduce;
 mod solution;
@@ -78,23 +80,39 @@ pub fn is_root(coefficients: &[i64], p: u32, n: u32, point: u32) -> Tested
     ensures { λ r. ⌜ r ≡ testedOf (now (coefficients .entry)) p n point ⌝ }
 {
     match check_polynomial(coefficients, p, n) {
-        Modulus::Accepted(m) => test_modulo(coefficients, p, n, m, point),
+        Modulus::Accepted(m) => {
+            let c = coefficients.len();
+            let row = reduce::reduced(coefficients, m);
+            points::test_reduced(&row[..c], m, point)
+        }
         Modulus::Refused(r) => Tested::Refused(r),
     }
 }
 
-// The test of a usable polynomial, with m = pⁿ.
-fn test_modulo(coefficients: &[i64], p: u32, n: u32, m: u64, point: u32) -> Tested
-    requires { ⌜ UsablePolynomial (now coefficients) p n m ⌝ }
-    ensures { λ r. ⌜ r ≡ testedOf (now (coefficients .entry)) p n point ⌝ }
+// A point and the place for its answer (02, 2.5): 1 for a root, 0 for no root, 8 for a point that is not below pⁿ.
+#[repr(C)]
+pub struct Query {
+    pub point: u32,
+    pub answer: u32,
+}
+
+pub enum TestedAll {
+    Answered,
+    Refused(Refusal),
+}
+
+// The test at each point of a row: every record gets its answer, and the points stay as they are. Rules 2, 3, 4, 14 and 5; a refusal
+// alters nothing.
+pub fn test_points(coefficients: &[i64], p: u32, n: u32, queries: &mut [Query]) -> TestedAll
+    ensures answer { λ r. ⌜ r ≡ testedAllOf (now (coefficients .entry)) p n ⌝ }
+    ensures queries { λ _. ⌜ now (queries .exit) ≡ queriesAfter (now (coefficients .entry)) p n (now (queries .entry)) ⌝ }
 {
-    if m <= point as u64 {
-        return Tested::Refused(Refusal::Point);
+    let polynomial = points::prepare(coefficients, p, n);
+    let end = points::usable_rows(polynomial, queries.len());
+    let mut i = 0;
+    while i < end {
+        queries[i] = points::answered(polynomial, queries[i]);
+        i += 1;
     }
-    let c = coefficients.len();
-    let row = reduce::reduced(coefficients, m);
-    if polynomial::value(&row[..c], point as u64, m) == 0 {
-        return Tested::Yes;
-    }
-    Tested::No
+    points::verdict(polynomial)
 }

@@ -1,9 +1,28 @@
 -- `solver::is_root` meets its contract.
-use mathlib.Core.Path.{sym, _∙_}
+use mathlib.Core.Path.{_≡_, sym, ap, _∙_}
+use mathlib.Core.List.{List}
 use borrow.Author.Needs.{needs}
+use lib.IntN.{ℤ}
+use lib.ListN.{length, length-map}
+use Rattle.theory.specs.Polynomial.{reduce}
+use Rattle.solver.specs.inner.UsablePolynomial.{UsablePolynomial}
+use Rattle.solver.proofs.Coefficients.{usable-pos, usable-fits}
 use Rattle.solver.proofs.Verdicts.{usable-polynomial, test-refused}
+use Rattle.solver.proofs.Testing.{tested-reduced}
 use Rattle.solver.proofs.is_root.Statement.{statement}
 use Rattle.solver.proofs.is_root.Tie as tie
+
+module _ (c : tie.After-m) where
+  abbrev checked : tie.After-check-polynomial
+  checked = c .before .before
+
+  abbrev a : tie.Start
+  a = checked .before
+
+  accepted : UsablePolynomial (a .args .coefficients .now) (a .args .p) (a .args .n) (c .m .given .0 .0)
+  accepted =
+      usable-polynomial (a .args .coefficients .now) (a .args .p) (a .args .n) (c .m .given .0 .0)
+      (sym (checked .check-polynomial .ensures) ∙ c .m .given .1)
 
 check-polynomial-requires : tie.Need-check-polynomial-requires
 check-polynomial-requires c κs = search needs
@@ -11,17 +30,27 @@ check-polynomial-requires c κs = search needs
 enum-known-m : tie.Need-enum-known-m
 enum-known-m c = search needs
 
-test-modulo-requires : tie.Need-test-modulo-requires
-test-modulo-requires c κs =
-    let checked = c .before .before .before in
-    let a = checked .before .args in
-    usable-polynomial (a .coefficients .now) (a .p) (a .n) _ (sym (checked .check-polynomial .ensures) ∙ c .before .m .given .1)
+reduced-requires : tie.Need-reduced-requires
+reduced-requires c κs = let U = accepted (c .before) in (usable-pos (U .modulus), usable-fits (U .modulus), U .few)
+
+array-share-prefix-row : tie.Need-array-share-prefix-row
+array-share-prefix-row c = let few = accepted (c .before .before) .few in search needs
+
+slice-aggregate-test-reduced : tie.Need-slice-aggregate-test-reduced
+slice-aggregate-test-reduced c =
+    sym (ap length (c .before .reduced .ensures) ∙ length-map (a (c .before .before .before) .args .coefficients .now) _)
+
+test-reduced-requires : tie.Need-test-reduced-requires
+test-reduced-requires c κs = let U = accepted (c .before .before .before) in (usable-pos (U .modulus), usable-fits (U .modulus))
 
 enum-known-r : tie.Need-enum-known-r
 enum-known-r c = search needs
 
 returns : tie.Need-returns
-returns c = search needs
+returns c =
+    let m = c .before .before .before .before in
+    let call = a m .args in
+    c .test-reduced .ensures ∙ tested-reduced (call .coefficients .now) (accepted m) (c .before .before .reduced .ensures) (call .point)
 
 returns-2 : tie.Need-returns-2
 returns-2 c =
@@ -31,4 +60,6 @@ returns-2 c =
 
 pub is-root-spec : {M : Type 1} → statement M
 is-root-spec =
-    tie.close (tie.spec check-polynomial-requires enum-known-m test-modulo-requires enum-known-r returns returns-2)
+    tie.close
+    (tie.spec check-polynomial-requires enum-known-m reduced-requires array-share-prefix-row slice-aggregate-test-reduced
+    test-reduced-requires enum-known-r returns returns-2)

@@ -1,11 +1,12 @@
 -- Lists that are filled from the front, one entry a step: what a loop that writes f of each entry of xs keeps true.
 use mathlib.Core.Path.{_≡_, refl, sym, ap, ap₂, _∙_}
-use mathlib.Core.List.{List, [], _∷_, _++_, map}
+use mathlib.Core.List.{List, [], _∷_, _++_, map, append-nil}
 use Prim.Native.Nat.{ℕ, zero, suc, _+_, _≤_, _<_}
 use native.Mathlib.Numerals.{add-one}
 use native.Mathlib.Omega.{arith}
 use lib.ListN.{length, getD, take, drop, set, replicate, length-append, length-map, length-drop}
-use lib.Seq.{getD-set-other, getD-set-same, take-suc, take-suc-set, drop-cons, set-at, append-snoc, length-take-le, take-at}
+use lib.Seq.{getD-at, getD-set-other, getD-set-same, take-suc, take-suc-set, drop-cons, set-at, append-snoc, length-take-le, take-at}
+use lib.Seq.{take-length, drop-length}
 use native.Mathlib.Decide.{ℕ-discrete}
 use Rattle.theory.proofs.Lists.Map.{map-append}
 
@@ -32,17 +33,26 @@ module _ {A B : Type 0} (f : A → B) (xs : List A) (i : ℕ) (d : A) (hx : i < 
       → take (i + 1) (set l i v) ≡ map f (take (i + 1) xs)
   filled-next l v hl e h = take-set-next l i v hl ∙ ap₂ (λ ys y. ys ++ (y ∷ [])) h e ∙ sym map-take-next
 
+  abbrev front : List B
+  front = map f (take i xs)
+
+  front-length : length front ≡ i
+  front-length = length-map (take i xs) f ∙ length-take-le i xs (omega arith)
+
   -- the same of a list that keeps the rest of l₀
   pub written-next : (l₀ : List B) (b v : B) → i < length l₀ → v ≡ f (getD xs i d)
       → set (map f (take i xs) ++ drop i l₀) i v ≡ map f (take (i + 1) xs) ++ drop (i + 1) l₀
   written-next l₀ b v hl e =
-      let pre = map f (take i xs) in
-      let n : length pre ≡ i = length-map (take i xs) f ∙ length-take-le i xs (omega arith) in
-      ap (λ ys. set (pre ++ ys) i v) (drop-next l₀ i b hl)
-      ∙ set-at pre (getD l₀ i b) (drop (i + 1) l₀) v i n
-      ∙ ap (λ y. pre ++ y ∷ drop (i + 1) l₀) e
-      ∙ sym (append-snoc pre (f (getD xs i d)) (drop (i + 1) l₀))
+      ap (λ ys. set (front ++ ys) i v) (drop-next l₀ i b hl)
+      ∙ set-at front (getD l₀ i b) (drop (i + 1) l₀) v i front-length
+      ∙ ap (λ y. front ++ y ∷ drop (i + 1) l₀) e
+      ∙ sym (append-snoc front (f (getD xs i d)) (drop (i + 1) l₀))
       ∙ ap (λ ys. ys ++ drop (i + 1) l₀) (sym map-take-next)
+
+  -- whose entry at i is still that of l₀
+  pub written-entry : (l₀ : List B) (b : B) → i < length l₀ → getD (map f (take i xs) ++ drop i l₀) i b ≡ getD l₀ i b
+  written-entry l₀ b hl =
+      ap (λ ys. getD (front ++ ys) i b) (drop-next l₀ i b hl) ∙ getD-at front (getD l₀ i b) (drop (i + 1) l₀) b i front-length
 
 -- such a list is as long as l₀
 pub written-length : {A B : Type 0} (f : A → B) (xs : List A) (l₀ : List B) (i : ℕ) → i ≤ length xs → i ≤ length l₀
@@ -50,6 +60,12 @@ pub written-length : {A B : Type 0} (f : A → B) (xs : List A) (l₀ : List B) 
 written-length f xs l₀ i hx hl =
     length-append (map f (take i xs)) (drop i l₀)
     ∙ rw (length-map (take i xs) f, length-take-le i xs hx, length-drop i l₀) (omega arith)
+
+-- and where every entry is written, nothing of l₀ is left
+pub written-whole : {A B : Type 0} (f : A → B) (xs : List A) (l₀ : List B) → length l₀ ≡ length xs
+    → map f (take (length xs) xs) ++ drop (length xs) l₀ ≡ map f xs
+written-whole f xs l₀ e =
+    ap₂ (λ ys zs. map f ys ++ zs) (take-length xs) (ap (λ (k : ℕ). drop k l₀) (sym e) ∙ drop-length l₀) ∙ append-nil (map f xs)
 
 -- an entry after one store
 pub stored : {A : Type 0} (l : List A) (j k : ℕ) (v d x : A) → j < length l → (k ≡ j → v ≡ x) → ((k ≡ j → ⊥) → getD l k d ≡ x)
