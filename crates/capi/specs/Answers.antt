@@ -5,6 +5,8 @@ use Rattle.solver.specs.declared.Solved.{Solved}
 use Rattle.solver.specs.declared.Solved.the-variants as solved
 use Rattle.solver.specs.declared.Tested.{Tested}
 use Rattle.solver.specs.declared.Tested.the-variants as tested
+use Rattle.solver.specs.declared.TestedAll.{TestedAll}
+use Rattle.solver.specs.declared.TestedAll.the-variants as testedAll
 use Rattle.classes.specs.declared.next.Next.{Next}
 use Rattle.classes.specs.declared.next.Next.the-variants as next
 use Rattle.rootmap.specs.declared.Mapped.{Mapped}
@@ -17,6 +19,7 @@ use Rattle.writer.specs.declared.Written.{Written}
 use Rattle.writer.specs.declared.Written.the-variants as written
 use Rattle.capi.specs.declared.solve.SolveAnswer.{SolveAnswer}
 use Rattle.capi.specs.declared.is_root.TestAnswer.{TestAnswer}
+use Rattle.capi.specs.declared.test_points.PointsAnswer.{PointsAnswer}
 use Rattle.capi.specs.declared.next_root.NextAnswer.{NextAnswer}
 use Rattle.capi.specs.declared.fill_map.MapAnswer.{MapAnswer}
 use Rattle.capi.specs.declared.count_map.CountAnswer.{CountAnswer}
@@ -33,6 +36,11 @@ abbrev pub testAnswer : Tested → TestAnswer
 testAnswer tested.Yes = record { number = 0; place = 0; root = 1 }
 testAnswer tested.No = record { number = 0; place = 0; root = 0 }
 testAnswer (tested.Refused r) = record { number = numberOf r; place = placeOf r; root = 0 }
+
+-- every record has its answer, or the call is refused (02, 2.5)
+abbrev pub pointsAnswer : TestedAll → PointsAnswer
+pointsAnswer testedAll.Answered = record { number = 0; place = 0 }
+pointsAnswer (testedAll.Refused r) = record { number = numberOf r; place = placeOf r }
 
 -- "Next returns the least member at or after the point, or none": found is 1, or 0 for none
 abbrev pub nextAnswer : Next → NextAnswer

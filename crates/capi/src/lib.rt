@@ -6,4 +6,5 @@ mod is_root;
 mod next_root;
 mod read_problem;
 mod solve;
+mod test_points;
 mod write_classes;
