@@ -115,6 +115,23 @@ typedef struct {
 wimpleclay_test_answer wimpleclay_is_root(const int64_t *coefficients, size_t coefficients_length, uint32_t p,
                                           uint32_t n, uint32_t point);
 
+/* A point and the place for its answer. */
+typedef struct {
+    uint32_t point;
+    uint32_t answer; /* 1 if the point is a root, 0 if it is not, 8 (WIMPLECLAY_POINT) if it is not below p^n */
+} wimpleclay_query;
+
+typedef struct {
+    uint32_t number;
+    size_t place;
+} wimpleclay_points_answer;
+
+/* The test at many points: each record of the row gets its answer, whatever it held, and every point is left as it
+   is. A point that is not below p^n has the answer 8 and disturbs no other record. A row of length 0 is fine. The
+   coefficients are reduced once for all points. Rules 2, 3, 4, 14 and 5 refuse the whole call. */
+wimpleclay_points_answer wimpleclay_test_points(const int64_t *coefficients, size_t coefficients_length, uint32_t p,
+                                                uint32_t n, wimpleclay_query *queries, size_t queries_length);
+
 /* Stepping through the roots ***************************************************************************************/
 
 typedef struct {

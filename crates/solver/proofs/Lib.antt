@@ -22,4 +22,5 @@ mod Coefficients
 mod Verdicts
 pub mod Testing
 pub mod Walking
+pub mod Types
 pub mod Answered

@@ -17,6 +17,12 @@ use denote.RattleType.{RattleType}
 use denote.Laws.{Is, Lawful, Makes, Typed, shows}
 use denote.Lowered.{Lowered}
 use denote.Plain.{UInt, uint-tells, uint-lawful, uint-makes}
+use denote.Struct.Declared as Structs
+use denote.Struct.Struct.{Plains}
+use denote.Struct.Laws as struct
+use denote.Enum.Declared as Enums
+use denote.Enum.Enum.{Plainss, Few}
+use denote.Enum.Laws as enum
 use denote.Steps.{owned, peeks, heard}
 use denote.Triple.Walked.{says}
 
@@ -44,7 +50,15 @@ module _ {R : RattleType} (K : Known R) where
   typed 𝓤 H A W d v p =
       subst (λ (τs : List Ty). Typed τs (v ∷ [])) (K .low .layout-is) (K .lawful 𝓤 H A W .typed d (v ∷ []) p) .0
 
--- an unsigned number
+-- a struct, an enum and an unsigned number
+abbrev pub of-struct : (T : Structs.Declared) (L : struct.Laws T) → Plains (Structs.fields T) → struct.Lowered T → Known (Structs.row T)
+of-struct T L plain low = record { low = low; lawful = struct.lawful T L; makes = λ 𝓤 H A _. struct.makes T plain 𝓤 H A }
+
+abbrev pub of-enum : (T : Enums.Declared) (L : enum.Laws T) → Few (Enums.shape T) → Plainss (Enums.variants T) → Lowered (Enums.row T)
+    → Known (Enums.row T)
+of-enum T L few plain low =
+    record { low = low; lawful = λ 𝓤 H A W. enum.lawful T L 𝓤 H A W few; makes = λ 𝓤 H A _. enum.makes T plain 𝓤 H A }
+
 abbrev pub number : (w : Width) → Known (UInt w)
 number w = record {
   low = record { mir = tyInt w; lowered = vint w; layout-is = refl; val-is = uint-tells w };

@@ -47,6 +47,7 @@ use Rattle.solver.specs.inner.Points.{usableRows, Ready}
 use Rattle.solver.specs.declared.Query.{Query}
 use Rattle.solver.specs.declared.TestedAll.{TestedAll}
 use Rattle.solver.proofs.Walking.{typed, told, number, says-both, has, gives}
+use Rattle.solver.proofs.Types.{tested-all}
 use Rattle.solver.proofs.Query as Q
 use Rattle.solver.proofs.TestedAll as T
 use Rattle.solver.proofs.points.Prepared as P
@@ -65,7 +66,7 @@ use Rattle.solver.proofs.test_points.Code as code
 mod Calls
 mod Turns
 mod Loop
-use Calls.{prepared, tested-all, Call, cs-val, xs-val, Coefficients, Prepare, UsableRows, Answered, Verdict}
+use Calls.{prepared, Call, cs-val, xs-val, Coefficients, Prepare, UsableRows, Answered, Verdict}
 use Calls.{to-prepare, to-usable, asked-prepare, asked-usable, said-prepare, said-usable}
 use Turns.{Prepared-call}
 use Loop.{closed, looped}

@@ -19,8 +19,6 @@ use denote.Builtin.{i64}
 use denote.Ref.{RefT, now}
 use denote.Slice.{sliceVal, ShrSlice, Room}
 use denote.Steps.{nothing}
-use denote.Struct.Laws as struct
-use denote.Enum.Laws as enum
 use denote.Triple.Statement.{Contract}
 use denote.Triple.Clauses.{ensured, lasts}
 use denote.Triple.Spec.{tripleOf}
@@ -29,11 +27,9 @@ use Rattle.solver.specs.inner.Points.{answeredBy, usableRows, Ready, Sou
 use Rattle.solver.specs.declared.Query.{Query}
 use Rattle.solver.specs.declared.TestedAll.{TestedAll}
 use Rattle.solver.specs.declared.points.Prepared.{Prepared}
-use Rattle.solver.proofs.Walking.{Known, val, At, number, has}
+use Rattle.solver.proofs.Walking.{Known, of-struct, val, At, number, has}
+use Rattle.solver.proofs.Types.{query}
 use Rattle.solver.proofs.Query as Q
-use Rattle.solver.proofs.Query.Laws as Q-laws
-use Rattle.solver.proofs.TestedAll as T
-use Rattle.solver.proofs.TestedAll.Laws as T-laws
 use Rattle.solver.proofs.points.Prepared as P
 use Rattle.solver.proofs.points.Prepared.Laws as P-laws
 use Rattle.solver.proofs.points.prepare as prepare
@@ -41,28 +37,8 @@ use Rattle.solver.proofs.points.usable_rows as usable-rows
 use Rattle.solver.proofs.points.answered as answered
 use Rattle.solver.proofs.points.verdict as verdict
 
--- The types by value
-
-abbrev pub query : Known Q.the-row
-query = record {
-  low = Q-laws.lowers;
-  lawful = struct.lawful Q.the-type Q-laws.the-laws;
-  makes = λ 𝓤 H A _. struct.makes Q.the-type Q-laws.the-plain 𝓤 H A;
-}
-
 abbrev pub prepared : Known P.the-row
-prepared = record {
-  low = P-laws.lowers;
-  lawful = struct.lawful P.the-type P-laws.the-laws;
-  makes = λ 𝓤 H A _. struct.makes P.the-type P-laws.the-plain 𝓤 H A;
-}
-
-abbrev pub tested-all : Known T.the-row
-tested-all = record {
-  low = T-laws.lowers;
-  lawful = λ 𝓤 H A W. enum.lawful T.the-type T-laws.the-laws 𝓤 H A W tt;
-  makes = λ 𝓤 H A _. enum.makes T.the-type T-laws.the-plain 𝓤 H A;
-}
+prepared = of-struct P.the-type P-laws.the-laws P-laws.the-plain P-laws.lowers
 
 -- What a call is lent and passed: the two slices, each with its lifetime and the share of the lifetime's token, and p and n
 

@@ -39,12 +39,13 @@ use Rattle.solver.specs.Points.{testedAllOf, queriesAfter}
 use Rattle.solver.specs.declared.Query.{Query}
 use Rattle.solver.specs.declared.TestedAll.{TestedAll}
 use Rattle.solver.proofs.Walking.{val, At, typed, told, tests, has, gives}
+use Rattle.solver.proofs.Types.{query, tested-all}
 use Rattle.solver.proofs.Query as Q
 use Rattle.solver.proofs.TestedAll as T
 use Rattle.solver.proofs.points.answered.Symbol.{name as #answered}
 use Rattle.solver.proofs.points.verdict.Symbol.{name as #verdict}
 use Rattle.solver.proofs.test_points.Code.Mir as code
-use Rattle.solver.proofs.test_points.Proof.Calls.{query, prepared, tested-all, Call, cs-val, xs-val, Coefficients}
+use Rattle.solver.proofs.test_points.Proof.Calls.{prepared, Call, cs-val, xs-val, Coefficients}
 use Rattle.solver.proofs.test_points.Proof.Calls.{Answered, Verdict, to-answered, to-verdict, asked-answered, asked-verdict}
 use Rattle.solver.proofs.test_points.Proof.Calls.{said-answered, said-verdict}
 use Rattle.solver.proofs.test_points.Proof.Turns.{Prepared-call, none, Turn, start, rows, old, new, next, within, usable, Nearer}
