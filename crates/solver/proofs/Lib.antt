@@ -23,4 +23,6 @@ mod Verdicts
 pub mod Testing
 pub mod Walking
 pub mod Types
+pub mod Callers
+pub mod ManyPoints
 pub mod Answered

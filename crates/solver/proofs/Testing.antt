@@ -4,10 +4,9 @@ use mathlib.Core.List.{List, [], _∷_, _++_, map}
 use Prim.Native.Nat.{ℕ, _≤_, _<_}
 use native.Mathlib.Omega.{arith}
 use native.Mathlib.Nat.{min-le-right}
-use lib.Dec.{eqb}
 use lib.IntN.{ℤ}
 use lib.ListN.{length, length-map, length-take, take, drop}
-use Rattle.theory.specs.Polynomial.{reduce, roots}
+use Rattle.theory.specs.Polynomial.{reduce}
 use Rattle.theory.proofs.Lists.Fill.{written-whole}
 use Rattle.theory.proofs.Lists.Map.{map-same}
 use Rattle.refusal.specs.declared.Refusal.{Refusal}

@@ -1,5 +1,5 @@
 -- Steps of a walk along a function's MIR, for the functions that are lent a slice of structs: the borrow checker does not cover them.
-use mathlib.Core.Path.{_≡_, refl, subst}
+use mathlib.Core.Path.{refl, subst}
 use mathlib.Core.Bool.{Bool, not}
 use mathlib.Core.List.{List, [], _∷_}
 use Prim.Native.Nat.{ℕ}

@@ -1,5 +1,5 @@
 -- The test of many points in one call (02, 2.5).
-use mathlib.Core.List.{List, [], _∷_, map}
+use mathlib.Core.List.{List, map}
 use Prim.Native.Nat.{ℕ}
 use lib.IntN.{ℤ}
 use Rattle.refusal.specs.Number.{numberOf}

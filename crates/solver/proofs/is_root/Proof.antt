@@ -1,10 +1,7 @@
 -- `solver::is_root` meets its contract.
-use mathlib.Core.Path.{_≡_, sym, ap, _∙_}
-use mathlib.Core.List.{List}
+use mathlib.Core.Path.{sym, ap, _∙_}
 use borrow.Author.Needs.{needs}
-use lib.IntN.{ℤ}
 use lib.ListN.{length, length-map}
-use Rattle.theory.specs.Polynomial.{reduce}
 use Rattle.solver.specs.inner.UsablePolynomial.{UsablePolynomial}
 use Rattle.solver.proofs.Coefficients.{usable-pos, usable-fits}
 use Rattle.solver.proofs.Verdicts.{usable-polynomial, test-refused}

@@ -68,7 +68,6 @@ mod Turns
 mod Loop
 use Calls.{prepared, Call, cs-val, xs-val, Coefficients, Prepare, UsableRows, Answered, Verdict}
 use Calls.{to-prepare, to-usable, asked-prepare, asked-usable, said-prepare, said-usable}
-use Turns.{Prepared-call}
 use Loop.{closed, looped}
 
 -- At exit the coefficients, p and n are had as they were passed, and the records with their last content

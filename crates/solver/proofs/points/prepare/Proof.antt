@@ -1,8 +1,6 @@
 -- `solver::points::prepare` meets its contract.
-use mathlib.Core.Path.{_≡_, sym, _∙_}
-use mathlib.Core.List.{List}
+use mathlib.Core.Path.{sym, _∙_}
 use borrow.Author.Needs.{needs}
-use lib.IntN.{ℤ}
 use Rattle.solver.specs.inner.UsablePolynomial.{UsablePolynomial}
 use Rattle.solver.proofs.Coefficients.{usable-pos, usable-fits}
 use Rattle.solver.proofs.Verdicts.{usable-polynomial}
