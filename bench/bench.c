@@ -1,143 +1,16 @@
 /* bench: the CPU time of the library on named problems, beside FLINT and PARI where they are compiled in
-   (-DWITH_FLINT, -DWITH_PARI). It prints two tables in Markdown and fails if a peer finds other roots. */
+   (-DWITH_FLINT, -DWITH_PARI). It prints three tables in Markdown and fails if a peer finds other roots. */
 #include "bench.h"
 
-#include <math.h>
 #include <signal.h>
 #include <stdio.h>
 #include <stdlib.h>
 #include <string.h>
 #include <sys/resource.h>
 #include <sys/wait.h>
-#include <time.h>
 #include <unistd.h>
 
 enum { SECONDS = 30, MEBIBYTES = 1024, ROUNDS = 3 };
-
-/* Time *****************************************************************************************************************************/
-
-static double cpu_seconds(void)
-{
-    struct timespec t;
-    clock_gettime(CLOCK_PROCESS_CPUTIME_ID, &t);
-    return (double)t.tv_sec + 1e-9 * (double)t.tv_nsec;
-}
-
-/* The least time of one call, over batches of calls that fill half a second. */
-static double time_of(int (*call)(void))
-{
-    double begin = cpu_seconds(), best = HUGE_VAL;
-    unsigned long calls = 1;
-    do {
-        double start = cpu_seconds();
-        for (unsigned long i = 0; i < calls; i++)
-            call();
-        double spent = cpu_seconds() - start;
-        best = fmin(best, spent / (double)calls);
-        if (spent < 0.005)
-            calls *= 2;
-    } while (cpu_seconds() - begin < 0.5);
-    return best;
-}
-
-static const char *time_text(double seconds)
-{
-    static char text[32];
-    static const char *const units[] = {"s", "ms", "µs", "ns"};
-    int unit = 0;
-    for (; seconds < 1 && unit < 3; unit++)
-        seconds *= 1000;
-    snprintf(text, sizeof text, "%.*f %s", seconds < 9.995 ? 2 : seconds < 99.95 ? 1 : 0, seconds, units[unit]);
-    return text;
-}
-
-/* Problems *************************************************************************************************************************/
-
-static uint64_t draw(uint64_t limit)
-{
-    static uint64_t state = 20011;
-    uint64_t x = state += 0x9e3779b97f4a7c15u;
-    x = (x ^ (x >> 30)) * 0xbf58476d1ce4e5b9u;
-    x = (x ^ (x >> 27)) * 0x94d049bb133111ebu;
-    return (x ^ (x >> 31)) % limit;
-}
-
-/* The constant c. */
-static problem constant(const char *name, uint32_t p, uint32_t n, int64_t c)
-{
-    problem q = {name, p, n, 1, 1, {c}};
-    for (uint32_t i = 0; i < n; i++)
-        q.modulus *= p;
-    return q;
-}
-
-/* Multiplies by x - r. */
-static void times_factor(problem *q, uint64_t r)
-{
-    uint64_t m = q->modulus;
-    for (size_t i = q->count++; i > 0; i--)
-        q->f[i] = (int64_t)(((uint64_t)q->f[i - 1] + (m - r) * (uint64_t)q->f[i]) % m);
-    q->f[0] = (int64_t)((m - r) * (uint64_t)q->f[0] % m);
-}
-
-/* c·x·(x - 1)···(x - count + 1) */
-static problem consecutive(const char *name, uint32_t p, uint32_t n, int64_t c, uint64_t count)
-{
-    problem q = constant(name, p, n, c);
-    for (uint64_t r = 0; r < count; r++)
-        times_factor(&q, r);
-    return q;
-}
-
-/* 64 factors x - r, no two of the drawn r congruent modulo p. */
-static problem simple_roots(const char *name, uint32_t p, uint32_t n)
-{
-    problem q = constant(name, p, n, 1);
-    static uint8_t taken[65536];
-    memset(taken, 0, sizeof taken);
-    while (q.count < WIMPLECLAY_MAX_COEFFICIENTS) {
-        uint64_t r = draw(q.modulus);
-        if (!taken[r % p]++)
-            times_factor(&q, r);
-    }
-    return q;
-}
-
-/* 65 drawn coefficients. */
-static problem drawn(const char *name, uint32_t p, uint32_t n)
-{
-    problem q = constant(name, p, n, 0);
-    for (q.count = 0; q.count < WIMPLECLAY_MAX_COEFFICIENTS; q.count++)
-        q.f[q.count] = (int64_t)draw(q.modulus);
-    return q;
-}
-
-/* c·(x^d - 1) */
-static problem unity(const char *name, uint32_t p, uint32_t n, int64_t c, size_t d)
-{
-    problem q = constant(name, p, n, -c);
-    q.f[d] = c;
-    q.count = d + 1;
-    return q;
-}
-
-static problem repeated(const char *name, uint32_t p, uint32_t n, uint64_t r, int times)
-{
-    problem q = constant(name, p, n, 1);
-    while (times-- > 0)
-        times_factor(&q, r);
-    return q;
-}
-
-static problem fermat(void)
-{
-    problem q = constant("(x^13 − x)^4 mod 13^8", 13, 8, 0);
-    static const int64_t binomial[] = {1, -4, 6, -4, 1};
-    for (size_t i = 0; i <= 4; i++)
-        q.f[4 + 12 * i] = binomial[i];
-    q.count = 53;
-    return q;
-}
 
 /* The library **********************************************************************************************************************/
 
@@ -399,6 +272,7 @@ int main(void)
 {
     int all = print_problems();
     all = print_lists() && all;
+    all = print_points() && all;
     if (!all)
         fprintf(stderr, "bench: a call was refused, or a peer found other roots\n");
     return !all;

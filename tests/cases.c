@@ -191,6 +191,7 @@ static void test_null(void)
     expect(wimpleclay_solve(NULL, 0, 2, 1, NULL, 0, NULL, 0, NULL, 0).number == 2, "null coefficients");
     expect(wimpleclay_solve((const int64_t[]){1}, 1, 2, 1, NULL, 0, NULL, 0, NULL, 0).number == 0, "null lists");
     expect(wimpleclay_is_root(NULL, 0, 2, 1, 0).number == 2, "is_root: null coefficients");
+    expect(wimpleclay_test_points(NULL, 0, 2, 1, NULL, 0).number == 2, "test_points: null coefficients");
     expect(wimpleclay_next_root(2, 1, NULL, 0, NULL, 0, 0).found == 0, "next_root: null lists");
     expect(wimpleclay_fill_map(2, 1, NULL, 0, NULL, 0, NULL, 0).number == 10, "null map");
     expect(wimpleclay_count_map(2, 1, NULL, 0).number == 10, "count_map: null map");

@@ -1,4 +1,4 @@
-/* Lists of classes, drawn sound or with a fault of every kind that rule 7 knows. */
+/* Lists of classes, drawn sound or with a fault of every kind that rule 7 knows, and polynomials. */
 #ifndef DRAWN_H
 #define DRAWN_H
 
@@ -17,5 +17,18 @@ void draw_list(uint32_t p, uint32_t n, list *l, int marked);
 
 /* Checks that the lists drawn since the last call have had every fault in each of the first places as their first fault. */
 void expect_every_fault(int marked);
+
+/* A coefficient: small, any, an extreme one, or a multiple of a power of p. */
+int64_t draw_coefficient(uint32_t p, uint32_t n);
+
+/* Multiplies f by x - a, so that there are roots, and gives the new count; (a + 1) * m is below 2^63. */
+size_t times_root(int64_t *f, size_t count, uint32_t a, uint32_t m);
+
+/* Multiplies f by a power of p, so that the coefficients have a common factor. */
+void times_power(int64_t *f, size_t count, uint32_t p, uint32_t n);
+
+/* Draws a polynomial for p^n up to MOST into f, which has room for 65 coefficients, and gives the count. The turns
+   0, 1, .. bring every kind: few coefficients and many, a root for every digit, a common factor. */
+size_t draw_polynomial(uint32_t p, uint32_t n, int turn, int64_t *f);
 
 #endif

@@ -8,6 +8,7 @@ int main(void)
     test_rule_7();
     test_moduli();
     test_solving();
+    test_points();
     test_lists();
     test_counts();
     test_texts();

@@ -21,10 +21,11 @@ static void test_pair(uint32_t p, uint32_t n)
     static const int64_t one[] = {1};
     refusal r = refused_modulus(p, n);
     loan residues = lend(NULL, SLOTS * sizeof(int32_t)), levels = lend(NULL, SLOTS), marks = lend(NULL, SLOTS - 1);
-    loan bytes = lend(NULL, BYTES);
+    loan bytes = lend(NULL, BYTES), queries = lend(NULL, SLOTS * sizeof(wimpleclay_query));
     wimpleclay_solve_answer solved = wimpleclay_solve(one, 1, p, n, lent(&residues), SLOTS, lent(&levels), SLOTS,
                                                       lent(&marks), SLOTS - 1);
     wimpleclay_test_answer tested = wimpleclay_is_root(one, 1, p, n, UINT32_MAX);
+    wimpleclay_points_answer asked = wimpleclay_test_points(one, 1, p, n, lent(&queries), SLOTS);
     wimpleclay_next_answer next =
         wimpleclay_next_root(p, n, lent(&residues), SLOTS, lent(&levels), SLOTS, UINT32_MAX);
     wimpleclay_map_answer filled =
@@ -35,6 +36,8 @@ static void test_pair(uint32_t p, uint32_t n)
     judge(r, solved.number, solved.place, "solve: p and n");
     expect(solved.classes == 0 && solved.roots == 0 && solved.live == 0, "solve: 0 in a refusal");
     judge(r, tested.number, tested.place, "is_root: p and n");
+    judge(r, asked.number, asked.place, "test_points: p and n");
+    expect(kept_from(&queries, r.number ? 0 : queries.bytes), "test_points: a refusal writes nothing");
     judge(r, next.number, next.place, "next_root: p and n");
     judge(r, filled.number, filled.place, "fill_map: p and n");
     judge(r, counted.number, counted.place, "count_map: p and n");
@@ -45,6 +48,7 @@ static void test_pair(uint32_t p, uint32_t n)
     end_loan(&levels);
     end_loan(&marks);
     end_loan(&bytes);
+    end_loan(&queries);
 }
 
 void test_moduli(void)

@@ -31,7 +31,7 @@ static uint64_t residue_of(int64_t x, uint64_t m)
     return (uint64_t)(r < 0 ? r + (int64_t)m : r);
 }
 
-static uint64_t value(const int64_t *f, size_t count, uint64_t x, uint64_t m)
+uint64_t value(const int64_t *f, size_t count, uint64_t x, uint64_t m)
 {
     uint64_t v = 0;
     for (size_t i = count; i-- > 0;)

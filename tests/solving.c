@@ -73,59 +73,11 @@ static void test_polynomial(const int64_t *coefficients, size_t count, uint32_t 
     end_loan(&f);
 }
 
-/* A coefficient: small, any, an extreme one, or a multiple of a power of p. */
-static int64_t draw_coefficient(uint32_t p, uint32_t n)
-{
-    uint64_t factor = draw(50);
-    switch (draw(5)) {
-    case 0:
-        return (int64_t)draw(9) - 4;
-    case 1:
-        return (int64_t)(draw(UINT64_MAX) - INT64_MAX);
-    case 2:
-        return draw(2) ? INT64_MIN : INT64_MAX;
-    case 3:
-        return 0;
-    default:
-        return (int64_t)(power(p, (uint32_t)draw(n + 1)) * factor);
-    }
-}
-
-/* Multiplies by x - a, so that there are roots. */
-static size_t times_root(int64_t *f, size_t count, uint32_t a, uint32_t m)
-{
-    f[count] = 0;
-    for (size_t i = count; i > 0; i--)
-        f[i] = (f[i - 1] % m - (int64_t)a * (f[i] % m)) % m;
-    f[0] = -(int64_t)a * (f[0] % m) % m;
-    return count + 1;
-}
-
-/* Multiplies by a power of p, so that the coefficients have a common factor. */
-static void times_power(int64_t *f, size_t count, uint32_t p, uint32_t n)
-{
-    int64_t m = (int64_t)power(p, n), factor = (int64_t)power(p, (uint32_t)draw(n));
-    for (size_t i = 0; i < count; i++)
-        f[i] = f[i] % m * factor;
-}
-
 static void test_modulus(uint32_t p, uint32_t n, int polynomials)
 {
-    int64_t f[WIMPLECLAY_MAX_COEFFICIENTS];
-    uint32_t m = (uint32_t)power(p, n);
-    for (int i = 0; i < polynomials; i++) {
-        size_t count = i % 10 == 9 ? 65 - draw(3) : 1 + draw(5);
-        for (size_t j = 0; j < count; j++)
-            f[j] = draw_coefficient(p, n);
-        for (uint64_t roots = draw(6); roots > 0 && count < 65; roots--)
-            count = times_root(f, count, (uint32_t)draw(m), m);
-        if (i % 4 == 1)
-            for (uint32_t digit = 0; digit < p && count < 65; digit++)
-                count = times_root(f, count, digit, m);
-        if (i % 3 == 1)
-            times_power(f, count, p, n);
-        test_polynomial(f, count, p, n);
-    }
+    int64_t f[COEFFICIENTS];
+    for (int i = 0; i < polynomials; i++)
+        test_polynomial(f, draw_polynomial(p, n, i, f), p, n);
 }
 
 /* A residue of least size modulo m, often one of the outermost. */

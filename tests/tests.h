@@ -4,6 +4,7 @@
 
 void test_moduli(void);
 void test_solving(void);
+void test_points(void);
 void test_lists(void);
 void test_counts(void);
 void test_texts(void);

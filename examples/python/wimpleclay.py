@@ -14,6 +14,13 @@ to p^n - 1. x^2 - 1 modulo 2^4:
 >>> is_root([-1, 0, 1], 2, 4, 9)
 True
 
+Many points are tested in one call. A point that is not below p^n has the answer None:
+
+>>> test_points([-1, 0, 1], 2, 4, [0, 1, 7, 16, 9])
+[False, True, True, None, True]
+>>> test_points([-1, 0, 1], 2, 4, [])
+[]
+
 A class is marked 1 if its members are simple roots, 0 if they are not, 2 if only some are. 3x modulo 3^2, x^3 + x^2 modulo 2:
 
 >>> classes([0, 3], 3, 2)
@@ -48,6 +55,7 @@ from ctypes import POINTER, c_int32, c_int64, c_size_t, c_uint8, c_uint32, c_uin
 from typing import NamedTuple
 
 MAX_CLASSES = 64
+POINT = 8
 COMPOSITE = 14
 
 _library = ctypes.CDLL(os.environ.get("WIMPLECLAY_LIBRARY", "libwimpleclay.so"))
@@ -75,6 +83,19 @@ class Class(NamedTuple):
     mark: int
 
 
+class _Query(ctypes.Structure):
+    """A point and the place for its answer."""
+
+    _fields_ = [("point", c_uint32), ("answer", c_uint32)]
+
+
+def _word(value):
+    """The value; one that is no unsigned 32-bit integer is an OverflowError."""
+    if not 0 <= value < 2**32:
+        raise OverflowError(f"{value} is not from 0 to 2^32 - 1")
+    return value
+
+
 def _function(name, values, arguments):
     """The library's function, whose answer has these values after number and place; a list is a pointer and a length."""
     fields = [("number", c_uint32), ("place", c_size_t), *values]
@@ -84,8 +105,8 @@ def _function(name, values, arguments):
 
     def call(*given):
         for of, value in zip(arguments, given):
-            if of is c_uint32 and not 0 <= value < 2**32:
-                raise OverflowError(f"{value} is not from 0 to 2^32 - 1")
+            if of is c_uint32:
+                _word(value)
         answer = function(*given)
         if answer.number:
             raise Refused(answer.number, answer.place)
@@ -106,6 +127,7 @@ _solve = _function(
     (*_problem, *_residues, *_levels, *_marks),
 )
 _is_root = _function("is_root", [("root", c_uint32)], (*_problem, c_uint32))
+_test_points = _function("test_points", [], (*_problem, *_list(_Query)))
 _next_root = _function(
     "next_root", [("found", c_uint32), ("root", c_uint32)], (c_uint32, c_uint32, *_residues, *_levels, c_uint32)
 )
@@ -148,6 +170,14 @@ def live(coefficients, p, n):
 def is_root(coefficients, p, n, point):
     """Whether p^n divides the value at the point."""
     return bool(_is_root(*_row(coefficients), p, n, point).root)
+
+
+def test_points(coefficients, p, n, points):
+    """For each point whether p^n divides the value there, or None if the point is not below p^n."""
+    queries = [_Query(_word(point)) for point in points]
+    row = (_Query * len(queries))(*queries)
+    _test_points(*_row(coefficients), p, n, row, len(row))
+    return [None if query.answer == POINT else bool(query.answer) for query in row]
 
 
 def iterate(coefficients, p, n, start=0):

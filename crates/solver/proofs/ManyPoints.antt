@@ -1,11 +1,11 @@
 -- What the test of many points promises, in the words of 02, 2.5.
-use mathlib.Core.Path.{_≡_, refl, sym, ap, _∙_}
-use mathlib.Core.Bool.{Bool, true, false}
+use mathlib.Core.Path.{_≡_, refl, ap, _∙_}
+use mathlib.Core.Bool.{true, false}
 use mathlib.Core.List.{List, [], _∷_, map}
 use Prim.Native.Nat.{ℕ, _^_, _≤_, _<_}
 use native.Mathlib.Omega.{arith}
 use lib.IntN.{ℤ}
-use lib.ListN.{length, length-map, getD}
+use lib.ListN.{length, getD}
 use Rattle.theory.specs.Polynomial.{roots}
 use Rattle.theory.proofs.Lists.Map.{map-map, getD-map}
 use Rattle.refusal.specs.declared.Refusal.{Refusal}

@@ -20,7 +20,7 @@ use Rattle.solver.specs.declared.points.Prepared.{Prepared}
 use Rattle.solver.specs.Solve.{polynomialRules, yesOr, testedOf}
 use Rattle.solver.specs.Points.{answerNumber, answeredOf, answeredOr, pointsVerdict, testedAllOf, queriesAfter, rowAfter}
 use Rattle.solver.specs.inner.UsablePolynomial.{polynomialModulus, UsablePolynomial}
-use Rattle.solver.specs.inner.Points.{testedReduced, answeredBy, Sound, Ready, usableRows}
+use Rattle.solver.specs.inner.Points.{testedReduced, answeredBy, Sound, Ready, answeredCount}
 use Rattle.solver.proofs.Coefficients.{usable-pos, usable-fits, root-is}
 use Rattle.solver.proofs.Verdicts.{tested-is}
 
@@ -60,9 +60,9 @@ module _ (f : List ℤ) (p n : ℕ) where
 
 -- The lent row
 
-pub usable-most : (u : TestedAll) (k : ℕ) → usableRows u k ≤ k
-usable-most Answered k = omega arith
-usable-most (Refused r) k = omega arith
+pub answered-most : (u : TestedAll) (k : ℕ) → answeredCount u k ≤ k
+answered-most Answered k = omega arith
+answered-most (Refused r) k = omega arith
 
 module _ (f : List ℤ) (p n : ℕ) (t : Prepared) (R : Ready f p n t) where
   verdict-is : t .verdict ≡ answeredOr (pointsVerdict f p n)
@@ -70,13 +70,13 @@ module _ (f : List ℤ) (p n : ℕ) (t : Prepared) (R : Ready f p n t) where
   verdict-is = R .verdict
 
   -- a record that gets an answer is in a call that is accepted
-  pub sound-within : (i k : ℕ) → i < usableRows (t .verdict) k → Sound t
+  pub sound-within : (i k : ℕ) → i < answeredCount (t .verdict) k → Sound t
   sound-within i k h = go (pointsVerdict f p n) refl
     where
       go : (v : Verdict) → pointsVerdict f p n ≡ v → Sound t
       go passes e = R .sound e
       go (refuses r) e =
-          let none : usableRows (t .verdict) k ≡ 0 = ap (λ (u : TestedAll). usableRows u k) (verdict-is ∙ ap answeredOr e) in
+          let none : answeredCount (t .verdict) k ≡ 0 = ap (λ (u : TestedAll). answeredCount u k) (verdict-is ∙ ap answeredOr e) in
           absurd (omega (arith, none, h))
 
   -- the row with the answers of its first i records
@@ -84,12 +84,12 @@ module _ (f : List ℤ) (p n : ℕ) (t : Prepared) (R : Ready f p n t) where
   rowAt xs i = map (answeredBy t) (take i xs) ++ drop i xs
 
   -- with those of all that get one it is the row after the call
-  pub row-after : (xs : List Query) → rowAt xs (usableRows (t .verdict) (length xs)) ≡ queriesAfter f p n xs
+  pub row-after : (xs : List Query) → rowAt xs (answeredCount (t .verdict) (length xs)) ≡ queriesAfter f p n xs
   unfolding queriesAfter
-  row-after xs = ap (λ (u : TestedAll). rowAt xs (usableRows u (length xs))) verdict-is ∙ go (pointsVerdict f p n) refl
+  row-after xs = ap (λ (u : TestedAll). rowAt xs (answeredCount u (length xs))) verdict-is ∙ go (pointsVerdict f p n) refl
     where
       go : (v : Verdict) → pointsVerdict f p n ≡ v
-          → rowAt xs (usableRows (answeredOr v) (length xs)) ≡ rowAfter v (map (answeredOf f p n) xs) xs
+          → rowAt xs (answeredCount (answeredOr v) (length xs)) ≡ rowAfter v (map (answeredOf f p n) xs) xs
       go passes e =
           written-whole (answeredBy t) xs xs refl ∙ map-same (answeredBy t) (answeredOf f p n) xs (λ q _. R .answers e q)
       go (refuses r) e = refl

@@ -108,7 +108,7 @@ pub fn test_points(coefficients: &[i64], p: u32, n: u32, queries: &mut [Query]) 
     ensures queries { λ _. ⌜ now (queries .exit) ≡ queriesAfter (now (coefficients .entry)) p n (now (queries .entry)) ⌝ }
 {
     let polynomial = points::prepare(coefficients, p, n);
-    let end = points::usable_rows(polynomial, queries.len());
+    let end = points::count_answered(polynomial, queries.len());
     let mut i = 0;
     while i < end {
         queries[i] = points::answered(polynomial, queries[i]);

@@ -2,7 +2,7 @@
 ghost use mathlib.Core.Path.{_≡_};
 ghost use Prim.Native.Nat.{_≤_, _<_};
 ghost use Rattle.solver.specs.Points.{answerNumber};
-ghost use Rattle.solver.specs.inner.Points.{testedReduced, Ready, Sound, answeredBy, usableRows};
+ghost use Rattle.solver.specs.inner.Points.{testedReduced, Ready, Sound, answeredBy, answeredCount};
 use crate::Query;
 use crate::Tested;
 use crate::TestedAll;
@@ -82,13 +82,13 @@ pub(crate) fn answered(polynomial: Prepared, query: Query) -> Query
     }
 }
 
-// How many of a row's records get an answer: all, or none where the call is refused.
-pub(crate) fn usable_rows(polynomial: Prepared, rows: usize) -> usize
-    ensures { λ r. ⌜ r ≡ usableRows (polynomial .verdict) rows ⌝ }
+// How many of the lent records get an answer: all, or none where the call is refused.
+pub(crate) fn count_answered(polynomial: Prepared, records: usize) -> usize
+    ensures { λ r. ⌜ r ≡ answeredCount (polynomial .verdict) records ⌝ }
 {
     let verdict = polynomial.verdict;
     match verdict {
-        TestedAll::Answered => rows,
+        TestedAll::Answered => records,
         TestedAll::Refused(_) => 0,
     }
 }

@@ -13,6 +13,7 @@ use crate::modular::multiply_add;
 use crate::modular::power;
 use crate::plain;
 use crate::plain::Roots;
+use crate::points;
 use crate::signed::difference;
 use crate::signed::is_least;
 use crate::table::byte;
@@ -115,6 +116,7 @@ pub(crate) fn run(polynomial: Polynomial, x: Modulus, mut tally: Tally) -> Tally
         tally::NEXT,
         library::next(list, levels, k, x, x.m) == 4294967295,
     );
+    tally = points::compare(f, c, x, roots, tally);
     tally = residues(polynomial, list, levels, k, x, roots, tally);
     tally = classes(h, c, x, roots, list, levels, marks, k, tally);
     mapped::compare(list, levels, k, x, roots, tally)

@@ -4,6 +4,7 @@ use crate::prefix;
 use classes::Next;
 use rootmap::Counted;
 use rootmap::Mapped;
+use solver::Query;
 use solver::Solved;
 use solver::Tested;
 
@@ -61,6 +62,12 @@ pub(crate) fn test(f: [i64; 65], c: usize, x: Modulus, r: u32) -> u8 {
         Tested::No => 0,
         Tested::Refused(_) => 2,
     }
+}
+
+// The records after a call for many points.
+pub(crate) fn test_eight(f: [i64; 65], c: usize, x: Modulus, given: [Query; 8]) -> [Query; 8] {
+    let answers = queries::test_eight(prefix::coefficients(&f, c), x.p, x.n, given);
+    answers.queries
 }
 
 // The next root from a point in the first k classes: m for none, 2^32 − 1 for a refusal.

@@ -20,7 +20,7 @@ use contract.Monad.{Fun}
 use contract.Running.{givenOf, tables, tablesOf}
 use types.Kit.{Given, Sq, ‵, raw, _⊛_, ⋆, some, given, later, prop, _$_, _∵_, !, qed, move, keep, drop, use1, use3, split, join, group, pick}
 use types.Kit.{learn, rewrite, fsplit, fjoin, suffices, frame, await, done}
-use types.Run.{look, init, forget, stop, from, load, lit, of-opd, addr, and-then, no-more, assigns, land, returns, enter}
+use types.Run.{look, init, forget, stop, from, lit, of-opd, addr, and-then, no-more, assigns, land, returns, enter}
 use types.Run.{alloc1, alloc0, params1, pass1, pass0, free1, free0}
 use types.Part.{agg}
 use types.SemTy.{Arr, cells}
@@ -49,7 +49,7 @@ use Rattle.solver.specs.Points.{testedAllOf, queriesAfter}
 use Rattle.solver.specs.declared.Query.{Query}
 use Rattle.queries.specs.declared.Answers.{Answers}
 use Rattle.solver.proofs.Callers.{Passed, TestPoints, to-test-points, row-back}
-use Rattle.solver.proofs.Walking.{Known, of-struct, val, At, typed, told, number, says-both, has}
+use Rattle.solver.proofs.Walking.{copied, Known, of-struct, val, At, typed, told, number, says-both, has}
 use Rattle.solver.proofs.Types.{query, tested-all}
 use Rattle.queries.proofs.Lending.{array-of, apart, together, in-field}
 use Rattle.solver.proofs.Query as Q
@@ -169,10 +169,10 @@ module _ {M : Type 1} (𝓤 : URA M) (H : Heap 𝓤) (A : Atoms 𝓤) (W : Given
         pass1 ! (init ! 12 refl (tt, record { fits = c .n-fits })) $ pass1 ! (init ! 10 refl (typed queries 𝓤 H A W (c .xs) _ (c .xs-at))) $
         pass0 ! $
         -- the records are copied, and the copy's address and length are a slice
-        assigns ! (of-opd ! (load ! (from ! (stop !)) (look ! 10 refl))) (from ! (stop !))
+        assigns ! (of-opd ! (copied ! 10 refl)) (from ! (stop !))
         (init ! 8 refl (typed queries 𝓤 H A W (c .xs) _ (c .xs-at))) $
         assigns ! (addr ! (from ! (stop !))) (from ! (stop !)) (init ! 4 refl (tt, tt)) $
-        assigns ! (agg ! (and-then ! (load ! (from ! (stop !)) (look ! 4 refl)) (and-then ! (lit ! tt) (no-more !)))) (from ! (stop !))
+        assigns ! (agg ! (and-then ! (copied ! 4 refl) (and-then ! (lit ! tt) (no-more !)))) (from ! (stop !))
         (init ! 2 refl (tt, (tt, (record { fits = lit< tt }, tt)))) $
         rewrite ! 2 (λ (m : ℕ). ‵ (fat fullShare (sliceTy (tyRef erased mut (pointee (Q.the-row .written)))) l₈ 0 (sliceVal (l₅, 0) m)))
         (sym (eight c)) refl $
@@ -181,11 +181,12 @@ module _ {M : Type 1} (𝓤 : URA M) (H : Heap 𝓤) (A : Atoms 𝓤) (W : Given
         use1 W (later (some (λ (γ : GName). ‵ (Records c α l₅ γ) ⊛ ‵ (flent (α ∷ []) (Held Q.the-row (length (c .xs)) l₅ 0 γ)))))
         (lends-slice 𝓤 H A W Q.the-row (named 1) (α ∷ []) (c .xs) l₅ 0 (xs-room c)) $ await ! tt $ pick ! (λ γ. split ! $
         -- the call
-        move ! (22 ∷ 2 ∷ 23 ∷ 0 ∷ []) $ group ! 4 $ use1 W (raw (TestPoints 𝓤 H A at-mem run .pre (to-test-points 𝓤 H A at-mem run (lent c α l₅ γ))))
-        (asked-inner α l₅ γ) $
-        calls-at ! fm (TestPoints 𝓤 H A at-mem run) known-inner (to-test-points 𝓤 H A at-mem run (lent c α l₅ γ)) (and-then ! (load ! (from ! (stop !)) (look ! 17 refl))
-        (and-then ! (load ! (from ! (stop !)) (look ! 15 refl)) (and-then ! (load ! (from ! (stop !)) (look ! 13 refl))
-        (and-then ! (load ! (from ! (stop !)) (look ! 4 refl)) (no-more !))))) (λ v.
+        move ! (22 ∷ 2 ∷ 23 ∷ 0 ∷ []) $ group ! 4 $
+        use1 W (raw (TestPoints 𝓤 H A at-mem run .pre (to-test-points 𝓤 H A at-mem run (lent c α l₅ γ)))) (asked-inner α l₅ γ) $
+        calls-at ! fm (TestPoints 𝓤 H A at-mem run) known-inner (to-test-points 𝓤 H A at-mem run (lent c α l₅ γ))
+        (and-then ! (copied ! 17 refl)
+        (and-then ! (copied ! 15 refl) (and-then ! (copied ! 13 refl)
+        (and-then ! (copied ! 4 refl) (no-more !))))) (λ v.
         row-back 𝓤 H A at-mem run (lent c α l₅ γ) ! tt v (λ r zs r-is zs-is same r-at. split ! $ move ! (1 ∷ []) $ split ! $
         -- the loan ends, and the records are taken back
         lft-end ! tt $ move ! (0 ∷ 4 ∷ 3 ∷ []) $ use3 W (later (‵ (Arr (mem Q.the-row) (length (c .xs)) .lies zs l₅ 0)))
@@ -195,11 +196,11 @@ module _ {M : Type 1} (𝓤 : URA M) (H : Heap 𝓤) (A : Atoms 𝓤) (W : Given
         -- the result is made of them and the answer
         land ! (from ! (stop !)) (init ! 8 refl (typed tested-all 𝓤 H A W r v r-at)) $
         rewrite ! 8 (λ (u : Val). ‵ (fat fullShare (tested-all .low .mir) l₆ 0 u)) (ap only (tested-all .low .val-is r _ r-at)) refl $
-        assigns ! (of-opd ! (load ! (from ! (stop !)) (look ! 0 refl))) (from ! (stop !)) (init ! 2 refl (typed queries 𝓤 H A W zs _ zs-at)) $
+        assigns ! (of-opd ! (copied ! 0 refl)) (from ! (stop !)) (init ! 2 refl (typed queries 𝓤 H A W zs _ zs-at)) $
         let s : Answers = record { tested = r; queries = zs } in
         let s-at : At answers s =
         ((val tested-all r ∷ [], (val queries zs ∷ [], tt)), (refl, (told tested-all r _ r-at, (in-field Q.the-type 8 zs _ zs-at, tt)))) in
-        assigns ! (agg ! (and-then ! (load ! (from ! (stop !)) (look ! 8 refl)) (and-then ! (load ! (from ! (stop !)) (look ! 2 refl))
+        assigns ! (agg ! (and-then ! (copied ! 8 refl) (and-then ! (copied ! 2 refl)
         (no-more !)))) (from ! (stop !)) (init ! 19 refl (typed answers 𝓤 H A W s _ s-at)) $ returns ! (look ! 19 refl) $
         forget ! 0 refl $ forget ! 2 refl $ forget ! 4 refl $ forget ! 6 refl $ forget ! 8 refl $ forget ! 11 refl $ forget ! 13 refl $
         forget ! 15 refl $ forget ! 17 refl $ forget ! 19 refl $ move ! (19 ∷ 20 ∷ []) $ free1 ! $ move ! (17 ∷ 18 ∷ []) $ free1 ! $

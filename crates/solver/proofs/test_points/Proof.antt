@@ -1,6 +1,7 @@
--- `solver::test_points` meets its contract. The borrow checker does not cover a slice of structs, so this is a walk along the function's MIR:
--- the calls of `prepare` and `usable_rows` here, the loop and the call of `verdict` in `Loop`. A list of numbers after `move` or `keep` and a
--- number after `look`, `init` or `rewrite` are indices in what is held at that step: a local stands with what frees it, the last local first.
+-- `solver::test_points` meets its contract. The borrow checker does not cover a slice of structs, so this is a walk along the function's
+-- MIR: the calls of `prepare` and `count_answered` here, the loop and the call of `verdict` in `Loop`. A list of numbers after `move` or
+-- `keep`, and a number after `copied`, `look`, `init` or `rewrite`, are indices in what is held at that step: a local stands with what frees
+-- it, the last local first.
 use mathlib.Core.Path.{_≡_, refl, sym, ap, subst}
 use mathlib.Core.List.{List, [], _∷_}
 use Prim.Native.Nat.{ℕ}
@@ -21,7 +22,7 @@ use contract.Monad.{Fun}
 use contract.Running.{givenOf, tables, tablesOf}
 use types.Kit.{Given, Sq, ‵, raw, _⊛_, prop, _$_, _∵_, !, qed, move, keep, drop, use0, use1, use2, split, join, rewrite, fsplit, fjoin}
 use types.Kit.{suffices, frame, done}
-use types.Run.{look, init, stop, fld, from, load, lit, of-opd, and-then, no-more, assigns, land, enter, alloc1, alloc0, params1, pass1, pass0}
+use types.Run.{init, stop, fld, from, load, lit, of-opd, and-then, no-more, assigns, land, enter, alloc1, alloc0, params1, pass1, pass0}
 use types.Part.{whole, sub, look-in}
 use sound.WpLaws.{FmC, fmOf, WpFn-mono}
 use denote.RattleType.{owns}
@@ -43,18 +44,18 @@ use denote.Triple.Walked.{Stays, stay-none, stay-none-slice, stay-slice, walkOf,
 use denote.Triple.Walked.{walked, walk-meets}
 use denote.Exit.{yes}
 use Rattle.solver.specs.Points.{testedAllOf, queriesAfter}
-use Rattle.solver.specs.inner.Points.{usableRows, Ready}
+use Rattle.solver.specs.inner.Points.{answeredCount, Ready}
 use Rattle.solver.specs.declared.Query.{Query}
 use Rattle.solver.specs.declared.TestedAll.{TestedAll}
-use Rattle.solver.proofs.Walking.{typed, told, number, says-both, has, gives}
+use Rattle.solver.proofs.Walking.{copied, typed, told, number, says-both, has, gives}
 use Rattle.solver.proofs.Types.{tested-all}
 use Rattle.solver.proofs.Query as Q
 use Rattle.solver.proofs.TestedAll as T
 use Rattle.solver.proofs.points.Prepared as P
 use Rattle.solver.proofs.points.prepare.Symbol as prepare
 use Rattle.solver.proofs.points.prepare.Met as prepare-met
-use Rattle.solver.proofs.points.usable_rows.Symbol as usable-rows
-use Rattle.solver.proofs.points.usable_rows.Met as usable-rows-met
+use Rattle.solver.proofs.points.count_answered.Symbol as count-answered
+use Rattle.solver.proofs.points.count_answered.Met as count-answered-met
 use Rattle.solver.proofs.points.answered.Symbol as answered
 use Rattle.solver.proofs.points.answered.Met as answered-met
 use Rattle.solver.proofs.points.verdict.Symbol as verdict
@@ -66,8 +67,8 @@ use Rattle.solver.proofs.test_points.Code as code
 mod Calls
 mod Turns
 mod Loop
-use Calls.{prepared, Call, cs-val, xs-val, Coefficients, Prepare, UsableRows, Answered, Verdict}
-use Calls.{to-prepare, to-usable, asked-prepare, asked-usable, said-prepare, said-usable}
+use Calls.{prepared, Call, cs-val, xs-val, Coefficients, Prepare, CountAnswered, Answered, Verdict}
+use Calls.{to-prepare, to-count, asked-prepare, asked-count, said-prepare, said-count}
 use Loop.{closed, looped}
 
 -- At exit the coefficients, p and n are had as they were passed, and the records with their last content
@@ -111,7 +112,7 @@ module _ {M : Type 1} (𝓤 : URA M) (H : Heap 𝓤) (A : Atoms 𝓤) (W : Given
       move ! (1 ∷ 0 ∷ []) $ fjoin ! $ has ! tested-all r v is $ move ! (1 ∷ 0 ∷ []) $ done !
 
   module _ (𝓣 : Tables 𝓤 H) (fm : FmC 𝓤 H (W .laws) (𝓣 .C)) (known-prepare : Triple 𝓤 (𝓣 .C prepare.name) (Prepare 𝓤 H A at-mem run))
-      (known-usable : Triple 𝓤 (𝓣 .C usable-rows.name) (UsableRows 𝓤 H A at-mem run))
+      (known-count : Triple 𝓤 (𝓣 .C count-answered.name) (CountAnswered 𝓤 H A at-mem run))
       (known-answered : Triple 𝓤 (𝓣 .C answered.name) (Answered 𝓤 H A at-mem run))
       (known-verdict : Triple 𝓤 (𝓣 .C verdict.name) (Verdict 𝓤 H A at-mem run)) where
     walk : ent 𝓤 (onEntry 𝓤 H A test-points.signature (c .κ, (c .κ′, tt)) (c .q, (c .q′, tt)) args vals)
@@ -133,20 +134,20 @@ module _ {M : Type 1} (𝓤 : URA M) (H : Heap 𝓤) (A : Atoms 𝓤) (W : Given
         (shr-slice-copy 𝓤 H A W (named 0) (c .κ) i64 .twice (c .cs) (cs-val c ∷ [])) $ split ! $ move ! (37 ∷ 0 ∷ []) $
         use2 W (raw (Prepare 𝓤 H A at-mem run .pre (to-prepare 𝓤 H A at-mem run c))) (asked-prepare 𝓤 H A at-mem run W c) $
         calls-at ! fm (Prepare 𝓤 H A at-mem run) known-prepare (to-prepare 𝓤 H A at-mem run c)
-        (and-then ! (load ! (from ! (stop !)) (look ! 30 refl)) (and-then ! (load ! (from ! (stop !)) (look ! 28 refl))
-        (and-then ! (load ! (from ! (stop !)) (look ! 26 refl)) (no-more !)))) (λ v.
+        (and-then ! (copied ! 30 refl) (and-then ! (copied ! 28 refl)
+        (and-then ! (copied ! 26 refl) (no-more !)))) (λ v.
         gives ! tt (‵ (flft (c .κ) (c .q)) ⊛ ‵ ftrue) P.the-row v (λ t. Ready (now (c .cs)) (c .p) (c .n) t) (said-prepare 𝓤 H A at-mem run c)
         (λ t ready is. split ! $ move ! (1 ∷ []) $ drop ! $ land ! (from ! (stop !)) (init ! 22 refl (typed prepared 𝓤 H A W t v is)) $
         rewrite ! 22 (λ (u : Val). ‵ (fat fullShare (prepared .low .mir) l₅ 0 u)) (ap only (prepared .low .val-is t _ is)) refl $
-        -- `usable_rows` is passed the polynomial and the row's length
+        -- `count_answered` is passed the polynomial and the row's length
         assigns ! (of-opd ! (load ! (from ! (fld ! refl (stop !))) (look-in ! 24 (sub ! 1 refl (whole !))))) (from ! (stop !))
         (init ! 16 refl (tt, record { fits = c .xs-room .0 })) $
-        use0 W (raw (UsableRows 𝓤 H A at-mem run .pre (to-usable 𝓤 H A at-mem run t (length (c .xs)))))
-        (asked-usable 𝓤 H A at-mem run W t (told prepared t _ is) (length (c .xs)) (c .xs-room .0)) $
-        calls-at ! fm (UsableRows 𝓤 H A at-mem run) known-usable (to-usable 𝓤 H A at-mem run t (length (c .xs)))
-        (and-then ! (load ! (from ! (stop !)) (look ! 23 refl)) (and-then ! (load ! (from ! (stop !)) (look ! 17 refl)) (no-more !))) (λ w.
-        gives ! tt (‵ ftrue) usize w (λ e. e ≡ usableRows (t .verdict) (length (c .xs)))
-        (said-usable 𝓤 H A at-mem run t (length (c .xs))) (λ e e-is e-at. drop ! $
+        use0 W (raw (CountAnswered 𝓤 H A at-mem run .pre (to-count 𝓤 H A at-mem run t (length (c .xs)))))
+        (asked-count 𝓤 H A at-mem run W t (told prepared t _ is) (length (c .xs)) (c .xs-room .0)) $
+        calls-at ! fm (CountAnswered 𝓤 H A at-mem run) known-count (to-count 𝓤 H A at-mem run t (length (c .xs)))
+        (and-then ! (copied ! 23 refl) (and-then ! (copied ! 17 refl) (no-more !))) (λ w.
+        gives ! tt (‵ ftrue) usize w (λ e. e ≡ answeredCount (t .verdict) (length (c .xs)))
+        (said-count 𝓤 H A at-mem run t (length (c .xs))) (λ e e-is e-at. drop ! $
         land ! (from ! (stop !)) (init ! 20 refl (typed (number w64) 𝓤 H A W e w e-at)) $
         rewrite ! 20 (λ (u : Val). ‵ (fat fullShare (tyInt w64) l₆ 0 u)) (ap only (uint-tells w64 e _ e-at)) refl $
         assigns ! (of-opd ! (lit ! tt)) (from ! (stop !)) (init ! 18 refl (tt, record { fits = lit< tt })) $
@@ -164,7 +165,7 @@ module _ {M : Type 1} (𝓤 : URA M) (H : Heap 𝓤) (A : Atoms 𝓤) (W : Given
 
 module _ {M : Type 1} (𝓤 : URA M) (H : Heap 𝓤) (A : Atoms 𝓤) (W : Given 𝓤 H A) (at-mem : Memory → SProp 𝓤) (run : Routine → Fun 𝓤)
     (𝓣 : Tables 𝓤 H) (known-prepare : Triple 𝓤 (𝓣 .C prepare.name) (Prepare 𝓤 H A at-mem run))
-    (known-usable : Triple 𝓤 (𝓣 .C usable-rows.name) (UsableRows 𝓤 H A at-mem run))
+    (known-count : Triple 𝓤 (𝓣 .C count-answered.name) (CountAnswered 𝓤 H A at-mem run))
     (known-answered : Triple 𝓤 (𝓣 .C answered.name) (Answered 𝓤 H A at-mem run))
     (known-verdict : Triple 𝓤 (𝓣 .C verdict.name) (Verdict 𝓤 H A at-mem run)) where
   walks : Walks 𝓤 H A test-points.ended stayed (WpFn 𝓤 H (𝓣 .C) (𝓣 .Λ) code.function) (test-points.clauses 𝓤 H A at-mem run)
@@ -188,7 +189,7 @@ module _ {M : Type 1} (𝓤 : URA M) (H : Heap 𝓤) (A : Atoms 𝓤) (W : Given
         p-fits = are .1 .0 .1;
         n-fits = are .1 .1 .0 .1;
         xs-room = are .1 .1 .1 .0 .0 .1;
-      }) 𝓣 (fmOf 𝓤 H (W .laws) 𝓣) known-prepare known-usable known-answered known-verdict))
+      }) 𝓣 (fmOf 𝓤 H (W .laws) 𝓣) known-prepare known-count known-answered known-verdict))
 
   meets : Meets 𝓤 H A test-points.signature (WpFn 𝓤 H (𝓣 .C) (𝓣 .Λ) code.function) (test-points.spec 𝓤 H A at-mem run)
   meets =
@@ -210,8 +211,8 @@ test-points-spec 𝓤 H 𝓜 𝓖 𝓡 =
     (code.unfolded 𝓤 H 𝓜 𝓡) (meets 𝓤 H A (givenOf 𝓤 H 𝓜 𝓖) (𝓜 .mem) (𝓡 .run) (tablesOf 𝓤 H 𝓜 env)
     (cited 𝓤 H (Prepare 𝓤 H A (𝓜 .mem) (𝓡 .run)) 𝓜 𝓡 code.env prepare.name prepare.routine code.calls-solver·points·prepare
     (prepare-met.met 𝓤 H 𝓜 𝓖 𝓡))
-    (cited 𝓤 H (UsableRows 𝓤 H A (𝓜 .mem) (𝓡 .run)) 𝓜 𝓡 code.env usable-rows.name usable-rows.routine code.calls-solver·points·usable-rows
-    (usable-rows-met.met 𝓤 H 𝓜 𝓖 𝓡))
+    (cited 𝓤 H (CountAnswered 𝓤 H A (𝓜 .mem) (𝓡 .run)) 𝓜 𝓡 code.env count-answered.name count-answered.routine
+    code.calls-solver·points·count-answered (count-answered-met.met 𝓤 H 𝓜 𝓖 𝓡))
     (cited 𝓤 H (Answered 𝓤 H A (𝓜 .mem) (𝓡 .run)) 𝓜 𝓡 code.env answered.name answered.routine code.calls-solver·points·answered
     (answered-met.met 𝓤 H 𝓜 𝓖 𝓡))
     (cited 𝓤 H (Verdict 𝓤 H A (𝓜 .mem) (𝓡 .run)) 𝓜 𝓡 code.env verdict.name verdict.routine code.calls-solver·points·verdict

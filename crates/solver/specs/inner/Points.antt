@@ -36,7 +36,7 @@ pub record Ready (f : List ℤ) (p n : ℕ) (t : Prepared) : Type 0 where
   pub sound : pointsVerdict f p n ≡ passes → Sound t
   pub answers : pointsVerdict f p n ≡ passes → (q : Query) → answeredBy t q ≡ answeredOf f p n q
 
--- the records that get an answer
-abbrev pub usableRows : TestedAll → ℕ → ℕ
-usableRows Answered rows = rows
-usableRows (Refused r) rows = 0
+-- how many of so many records get an answer
+abbrev pub answeredCount : TestedAll → ℕ → ℕ
+answeredCount Answered records = records
+answeredCount (Refused r) records = 0

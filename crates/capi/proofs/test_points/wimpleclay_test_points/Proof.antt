@@ -44,7 +44,7 @@ use Rattle.solver.specs.declared.TestedAll.{TestedAll}
 use Rattle.solver.proofs.Query as Q
 use Rattle.solver.proofs.Types.{tested-all}
 use Rattle.solver.proofs.Callers.{Passed, args, vals, Filled, Tokens, TestPoints, to-test-points, row-back}
-use Rattle.solver.proofs.Walking.{Known, of-struct, val, At, typed, told, says-both, has, gives}
+use Rattle.solver.proofs.Walking.{copied, Known, of-struct, val, At, typed, told, says-both, has, gives}
 use Rattle.solver.proofs.test_points.Symbol as inner-symbol
 use Rattle.solver.proofs.test_points.Met as inner-met
 use Rattle.capi.specs.Answers.{pointsAnswer}
@@ -126,19 +126,20 @@ module _ {M : Type 1} (𝓤 : URA M) (H : Heap 𝓤) (A : Atoms 𝓤) (W : Given
         -- the slice is lent on
         assigns ! (addr ! (from ! (fld ! refl (hop ! (look-in ! 6 (sub ! 0 refl (whole !))) (stop !))))) (from ! (stop !))
         (init ! 2 refl (tt, tt)) $
-        assigns ! (agg ! (and-then ! (load ! (from ! (stop !)) (look ! 2 refl)) (and-then ! (load ! (from ! (fld ! refl (stop !)))
+        assigns ! (agg ! (and-then ! (copied ! 2 refl) (and-then ! (load ! (from ! (fld ! refl (stop !)))
         (look-in ! 6 (sub ! 1 refl (whole !)))) (no-more !)))) (from ! (stop !))
         (init ! 0 refl (tt, (tt, (record { fits = qs-room .0 }, tt)))) $
         move ! (16 ∷ 17 ∷ []) $ use2 W (raw (TestPoints 𝓤 H A at-mem run .pre (to-test-points 𝓤 H A at-mem run c))) asked-inner $
-        calls-at ! fm (TestPoints 𝓤 H A at-mem run) known-inner (to-test-points 𝓤 H A at-mem run c) (and-then ! (load ! (from ! (stop !)) (look ! 13 refl))
-        (and-then ! (load ! (from ! (stop !)) (look ! 11 refl)) (and-then ! (load ! (from ! (stop !)) (look ! 9 refl))
-        (and-then ! (load ! (from ! (stop !)) (look ! 1 refl)) (no-more !))))) (λ v.
+        calls-at ! fm (TestPoints 𝓤 H A at-mem run) known-inner (to-test-points 𝓤 H A at-mem run c)
+        (and-then ! (copied ! 13 refl)
+        (and-then ! (copied ! 11 refl) (and-then ! (copied ! 9 refl)
+        (and-then ! (copied ! 1 refl) (no-more !))))) (λ v.
         row-back 𝓤 H A at-mem run c ! tt v (λ r zs r-is zs-is same r-at.
         land ! (from ! (stop !)) (init ! 6 refl (typed tested-all 𝓤 H A W r v r-at)) $
         rewrite ! 6 (λ (u : Val). ‵ (fat fullShare (tested-all .low .mir) l₅ 0 u)) (ap only (tested-all .low .val-is r _ r-at)) refl $
         -- the answer is put in C's form
         use0 W (raw (Answer 𝓤 H A at-mem run .pre (to-answer r))) (asked-answer r (told tested-all r _ r-at)) $
-        calls-at ! fm (Answer 𝓤 H A at-mem run) known-answer (to-answer r) (and-then ! (load ! (from ! (stop !)) (look ! 7 refl)) (no-more !)) (λ w.
+        calls-at ! fm (Answer 𝓤 H A at-mem run) known-answer (to-answer r) (and-then ! (copied ! 7 refl) (no-more !)) (λ w.
         gives ! tt (‵ ftrue) P.the-row w (λ s. s ≡ pointsAnswer r) (said-answer r) (λ s s-is s-at. drop ! $
         land ! (from ! (stop !)) (init ! 16 refl (typed points-answer 𝓤 H A W s w s-at)) $ returns ! (look ! 16 refl) $
         forget ! 2 refl $ forget ! 4 refl $ forget ! 6 refl $ forget ! 8 refl $ forget ! 10 refl $ forget ! 12 refl $ forget ! 14 refl $

@@ -23,7 +23,7 @@ use denote.Triple.Statement.{Contract}
 use denote.Triple.Clauses.{ensured, lasts}
 use denote.Triple.Spec.{tripleOf}
 use denote.Triple.Walked.{says}
-use Rattle.solver.specs.inner.Points.{answeredBy, usableRows, Ready, Sound}
+use Rattle.solver.specs.inner.Points.{answeredBy, answeredCount, Ready, Sound}
 use Rattle.solver.specs.declared.Query.{Query}
 use Rattle.solver.specs.declared.TestedAll.{TestedAll}
 use Rattle.solver.specs.declared.points.Prepared.{Prepared}
@@ -33,7 +33,7 @@ use Rattle.solver.proofs.Query as Q
 use Rattle.solver.proofs.points.Prepared as P
 use Rattle.solver.proofs.points.Prepared.Laws as P-laws
 use Rattle.solver.proofs.points.prepare as prepare
-use Rattle.solver.proofs.points.usable_rows as usable-rows
+use Rattle.solver.proofs.points.count_answered as count-answered
 use Rattle.solver.proofs.points.answered as answered
 use Rattle.solver.proofs.points.verdict as verdict
 
@@ -76,8 +76,8 @@ module _ {M : Type 1} (𝓤 : URA M) (H : Heap 𝓤) (A : Atoms 𝓤) (at-mem : 
   abbrev pub Prepare : Contract 𝓤
   Prepare = tripleOf 𝓤 H A prepare.signature (prepare.spec 𝓤 H A at-mem run)
 
-  abbrev pub UsableRows : Contract 𝓤
-  UsableRows = tripleOf 𝓤 H A usable-rows.signature (usable-rows.spec 𝓤 H A at-mem run)
+  abbrev pub CountAnswered : Contract 𝓤
+  CountAnswered = tripleOf 𝓤 H A count-answered.signature (count-answered.spec 𝓤 H A at-mem run)
 
   abbrev pub Answered : Contract 𝓤
   Answered = tripleOf 𝓤 H A answered.signature (answered.spec 𝓤 H A at-mem run)
@@ -90,8 +90,8 @@ module _ {M : Type 1} (𝓤 : URA M) (H : Heap 𝓤) (A : Atoms 𝓤) (at-mem : 
   to-prepare c =
       (((c .κ, tt), (c .q, tt), tt, (c .cs, (c .p, (c .n, tt))), (cs-val c ∷ [], (vint w32 (c .p) ∷ [], (vint w32 (c .n) ∷ [], tt)))), tt)
 
-  abbrev pub to-usable : Prepared → ℕ → UsableRows .Ghost
-  to-usable t k = ((tt, tt, tt, (t, (k, tt)), (val prepared t ∷ [], (vint w64 k ∷ [], tt))), tt)
+  abbrev pub to-count : Prepared → ℕ → CountAnswered .Ghost
+  to-count t k = ((tt, tt, tt, (t, (k, tt)), (val prepared t ∷ [], (vint w64 k ∷ [], tt))), tt)
 
   abbrev pub to-answered : Prepared → Query → Answered .Ghost
   to-answered t d = ((tt, tt, tt, (t, (d, tt)), (val prepared t ∷ [], (val query d ∷ [], tt))), tt)
@@ -109,8 +109,8 @@ module _ {M : Type 1} (𝓤 : URA M) (H : Heap 𝓤) (A : Atoms 𝓤) (at-mem : 
         nothing ! $ move ! (2 ∷ 0 ∷ []) $ join ! $ join ! $ frame ! $ done !
 
     module _ (t : Prepared) (t-at : At prepared t) where
-      pub asked-usable : (k : ℕ) → k < 2 ^ 64 → ent 𝓤 (emp 𝓤) (UsableRows .pre (to-usable t k))
-      asked-usable k fits =
+      pub asked-count : (k : ℕ) → k < 2 ^ 64 → ent 𝓤 (emp 𝓤) (CountAnswered .pre (to-count t k))
+      asked-count k fits =
           qed W [] ∵ nothing ! $ has ! (number w64) k _ (refl, fits) $ fjoin ! $ has ! prepared t _ t-at $ fjoin ! $
           nothing ! $ join ! $ frame ! $ done !
 
@@ -130,9 +130,9 @@ module _ {M : Type 1} (𝓤 : URA M) (H : Heap 𝓤) (A : Atoms 𝓤) (at-mem : 
   said-prepare c t = exE 𝓤 _ (λ ws. snd∗ 𝓤 (sem 𝓤 H A (lasts prepare.ended (c .κ, tt) (c .cs, (c .p, (c .n, tt))) ws)) _)
 
   module _ (t : Prepared) where
-    pub said-usable : (k e : ℕ) → ent 𝓤 (ensured 𝓤 H A usable-rows.ended (usable-rows.clauses 𝓤 H A at-mem run) tt (t, (k, tt)) tt e)
-        (fact 𝓤 (e ≡ usableRows (t .verdict) k))
-    said-usable k e = exE 𝓤 _ (λ ws. snd∗ 𝓤 (sem 𝓤 H A (lasts usable-rows.ended tt (t, (k, tt)) ws)) _)
+    pub said-count : (k e : ℕ) → ent 𝓤 (ensured 𝓤 H A count-answered.ended (count-answered.clauses 𝓤 H A at-mem run) tt (t, (k, tt)) tt e)
+        (fact 𝓤 (e ≡ answeredCount (t .verdict) k))
+    said-count k e = exE 𝓤 _ (λ ws. snd∗ 𝓤 (sem 𝓤 H A (lasts count-answered.ended tt (t, (k, tt)) ws)) _)
 
     pub said-answered : (d s : Query) → ent 𝓤 (ensured 𝓤 H A answered.ended (answered.clauses 𝓤 H A at-mem run) tt (t, (d, tt)) tt s)
         (fact 𝓤 (s ≡ answeredBy t d))

@@ -1,5 +1,5 @@
--- The loop of `test_points`, and what follows it. The borrow of the records is open during the loop; a turn takes one record out of the row,
--- passes it to `answered`, and puts the record that comes back in its place.
+-- The loop of `test_points`, and what follows it. The borrow of the records is open during the loop; a turn takes one record out of the
+-- row, passes it to `answered`, and puts the record that comes back in its place.
 use mathlib.Core.Path.{_≡_, refl, sym, _∙_, ap}
 use mathlib.Core.Bool.{Bool}
 use mathlib.Core.List.{List, [], _∷_}
@@ -33,7 +33,7 @@ use denote.Triple.Call.{calls-at}
 use Rattle.solver.specs.Points.{testedAllOf, queriesAfter}
 use Rattle.solver.specs.declared.Query.{Query}
 use Rattle.solver.specs.declared.TestedAll.{TestedAll}
-use Rattle.solver.proofs.Walking.{val, typed, told, tests, has, gives}
+use Rattle.solver.proofs.Walking.{copied, val, typed, told, tests, has, gives}
 use Rattle.solver.proofs.Types.{query, tested-all}
 use Rattle.solver.proofs.Query as Q
 use Rattle.solver.proofs.TestedAll as T
@@ -43,7 +43,7 @@ use Rattle.solver.proofs.test_points.Code.Mir as code
 use Rattle.solver.proofs.test_points.Proof.Calls.{prepared, Call, cs-val, xs-val, Coefficients}
 use Rattle.solver.proofs.test_points.Proof.Calls.{Answered, Verdict, to-answered, to-verdict, asked-answered, asked-verdict}
 use Rattle.solver.proofs.test_points.Proof.Calls.{said-answered, said-verdict}
-use Rattle.solver.proofs.test_points.Proof.Turns.{Prepared-call, none, Turn, start, rows, old, new, next, within, usable, Nearer}
+use Rattle.solver.proofs.test_points.Proof.Turns.{Prepared-call, none, Turn, start, rows, old, new, next, within, test-sound, Nearer}
 use Rattle.solver.proofs.test_points.Proof.Turns.{rows-length, rows-next, rows-ended, offset-fits, next-fits, nearer, nearer-ends}
 
 -- what is held of the two slices once the borrow is closed, with the records zs
@@ -116,7 +116,7 @@ module _ {M : Type 1} (𝓤 : URA M) (H : Heap 𝓤) (A : Atoms 𝓤) (W : Given
     ends zs z same i y =
         use0 W (raw (Verdict 𝓤 H A at-mem run .pre (to-verdict 𝓤 H A at-mem run (s .t)))) (asked-verdict 𝓤 H A at-mem run W (s .t) (s .t-at)) $
         calls-at ! fm (Verdict 𝓤 H A at-mem run) known-verdict (to-verdict 𝓤 H A at-mem run (s .t))
-        (and-then ! (load ! (from ! (stop !)) (look ! 26 refl)) (no-more !)) (λ v.
+        (and-then ! (copied ! 26 refl) (no-more !)) (λ v.
         gives ! tt (‵ ftrue) T.the-row v (λ r. r ≡ s .t .verdict) (said-verdict 𝓤 H A at-mem run (s .t)) (λ r r-is is. drop ! $
         land ! (from ! (stop !)) (init ! 35 refl (typed tested-all 𝓤 H A W r v is)) $ returns ! (look ! 35 refl) $
         forget ! 17 refl $ forget ! 19 refl $ forget ! 21 refl $ forget ! 23 refl $ forget ! 25 refl $ forget ! 27 refl $
@@ -134,13 +134,14 @@ module _ {M : Type 1} (𝓤 : URA M) (H : Heap 𝓤) (A : Atoms 𝓤) (W : Given
     looped = first ! $ blocks ! $ loops ! 𝓣 (Nearer s) (nearer-ends s) Inv (λ u.
         let i = u .0 in
         let place = place-is 8 (c .o) i in
-        assigns ! (bin ! (load ! (from ! (stop !)) (look ! 22 refl)) (load ! (from ! (stop !)) (look ! 24 refl)) tt) (from ! (stop !))
-        (init ! 18 refl (tt, tt)) $ tests ! (load ! (from ! (stop !)) (look ! 18 refl)) (λ more.
+        assigns ! (bin ! (copied ! 22 refl) (copied ! 24 refl) tt) (from ! (stop !))
+        (init ! 18 refl (tt, tt)) $ tests ! (copied ! 18 refl) (λ more.
         -- the record at i is taken out and copied
         let offset : i * 8 < 2 ^ 64 = offset-fits s u more in
-        assigns ! (bin ! (load ! (from ! (stop !)) (look ! 22 refl)) (lit ! tt) (record { fits = offset })) (from ! (stop !)) (init ! 14 refl (tt, record { fits = offset })) $
-        assigns ! (bin ! (load ! (from ! (fld ! refl (stop !))) (look-in ! 28 (sub ! 0 refl (whole !)))) (load ! (from ! (stop !))
-        (look ! 14 refl)) tt) (from ! (stop !)) (init ! 12 refl (tt, tt)) $
+        assigns ! (bin ! (copied ! 22 refl) (lit ! tt) (record { fits = offset })) (from ! (stop !))
+        (init ! 14 refl (tt, record { fits = offset })) $
+        assigns ! (bin ! (load ! (from ! (fld ! refl (stop !))) (look-in ! 28 (sub ! 0 refl (whole !)))) (copied ! 14 refl) tt)
+        (from ! (stop !)) (init ! 12 refl (tt, tt)) $
         rewrite ! 12 (λ (m : ℕ). ‵ (fat fullShare tyPtr l₁₂ 0 (vptr (c .b) m))) (sym place) refl $
         elem-out ! Q.the-row (Is Q.the-row) (shows 𝓤 H A Q.the-row) (λ d. val query d ∷ []) (query .low .val-is) fullShare
         (rows s i) i none (c .b) (c .o) (within s u more) (λ old-at.
@@ -148,20 +149,21 @@ module _ {M : Type 1} (𝓤 : URA M) (H : Heap 𝓤) (A : Atoms 𝓤) (W : Given
         (init ! 12 refl (typed query 𝓤 H A W (old s i) _ old-at)) $ move ! (1 ∷ []) $ drop ! $
         -- the call
         use0 W (raw (Answered 𝓤 H A at-mem run .pre (to-answered 𝓤 H A at-mem run (s .t) (old s i))))
-        (asked-answered 𝓤 H A at-mem run W (s .t) (s .t-at) (old s i) old-at (usable s u more)) $
+        (asked-answered 𝓤 H A at-mem run W (s .t) (s .t-at) (old s i) old-at (test-sound s u more)) $
         calls-at ! fm (Answered 𝓤 H A at-mem run) known-answered (to-answered 𝓤 H A at-mem run (s .t) (old s i))
-        (and-then ! (load ! (from ! (stop !)) (look ! 28 refl)) (and-then ! (load ! (from ! (stop !)) (look ! 12 refl)) (no-more !))) (λ v.
+        (and-then ! (copied ! 28 refl) (and-then ! (copied ! 12 refl) (no-more !))) (λ v.
         gives ! tt (‵ ftrue) Q.the-row v (λ d. d ≡ new s i) (said-answered 𝓤 H A at-mem run (s .t) (old s i))
         (λ d d-is is. drop ! $ land ! (from ! (stop !)) (init ! 17 refl (typed query 𝓤 H A W d v is)) $
         rewrite ! 17 (λ (w : Val). ‵ (fat fullShare τq l₁₀ 0 w)) (ap only (query .low .val-is d _ is)) refl $
         -- the answered record is stored
-        assigns ! (bin ! (load ! (from ! (stop !)) (look ! 23 refl)) (lit ! tt) (record { fits = offset })) (from ! (stop !)) (init ! 9 refl (tt, record { fits = offset })) $
-        assigns ! (bin ! (load ! (from ! (fld ! refl (stop !))) (look-in ! 29 (sub ! 0 refl (whole !)))) (load ! (from ! (stop !))
-        (look ! 9 refl)) tt) (from ! (stop !)) (init ! 7 refl (tt, tt)) $
+        assigns ! (bin ! (copied ! 23 refl) (lit ! tt) (record { fits = offset })) (from ! (stop !))
+        (init ! 9 refl (tt, record { fits = offset })) $
+        assigns ! (bin ! (load ! (from ! (fld ! refl (stop !))) (look-in ! 29 (sub ! 0 refl (whole !)))) (copied ! 9 refl) tt)
+        (from ! (stop !)) (init ! 7 refl (tt, tt)) $
         rewrite ! 7 (λ (m : ℕ). ‵ (fat fullShare tyPtr l₁₅ 0 (vptr (c .b) m))) (sym place) refl $
-        assigns ! (of-opd ! (load ! (from ! (stop !)) (look ! 17 refl))) (from ! (hop ! (look ! 7 refl) (stop !)))
+        assigns ! (of-opd ! (copied ! 17 refl)) (from ! (hop ! (look ! 7 refl) (stop !)))
         (store-raw ! 0 refl (typed query 𝓤 H A W d _ (told query d _ is))) $
-        assigns-last ! (bin ! (load ! (from ! (stop !)) (look ! 23 refl)) (lit ! tt) (record { fits = next-fits s u more }))
+        assigns-last ! (bin ! (copied ! 23 refl) (lit ! tt) (record { fits = next-fits s u more }))
         (from ! (stop !)) (store ! 23 refl (tt, record { fits = next-fits s u more })) $
         -- it is in its place, and the turn has ended
         has ! query d _ (told query d _ is) $ move ! (1 ∷ 0 ∷ 2 ∷ []) $

@@ -11,11 +11,11 @@ use lib.ListN.{length, getD, set}
 use lib.WfN.{Nat·lt-wfRel}
 use denote.Ref.{now}
 use Rattle.solver.specs.Points.{queriesAfter}
-use Rattle.solver.specs.inner.Points.{answeredBy, usableRows, Ready, Sound}
+use Rattle.solver.specs.inner.Points.{answeredBy, answeredCount, Ready, Sound}
 use Rattle.solver.specs.declared.Query.{Query}
 use Rattle.solver.specs.declared.points.Prepared.{Prepared}
 use Rattle.theory.proofs.Lists.Fill.{written-next, written-entry, written-length}
-use Rattle.solver.proofs.Testing.{usable-most, sound-within, rowAt, row-after}
+use Rattle.solver.proofs.Testing.{answered-most, sound-within, rowAt, row-after}
 use Rattle.solver.proofs.Walking.{At}
 use Rattle.solver.proofs.test_points.Proof.Calls.{prepared, Call}
 
@@ -26,7 +26,7 @@ pub record Prepared-call : Type 0 where
   pub t-at : At prepared t
   pub ready : Ready (now (call .cs)) (call .p) (call .n) t
   pub end : ℕ
-  pub end-is : end ≡ usableRows (t .verdict) (length (call .xs))
+  pub end-is : end ≡ answeredCount (t .verdict) (length (call .xs))
   pub end-fits : end < 2 ^ 64
 
 -- what stands past the end of a row
@@ -41,7 +41,7 @@ module _ (s : Prepared-call) where
   xs = s .call .xs
 
   end-within : s .end ≤ length xs
-  end-within = omega (arith, s .end-is, usable-most (s .t .verdict) (length xs))
+  end-within = omega (arith, s .end-is, answered-most (s .t .verdict) (length xs))
 
   -- a turn: its number, which is not past the end
   abbrev pub Turn : Type 0
@@ -83,8 +83,8 @@ module _ (s : Prepared-call) where
     abbrev pub next : Turn
     next = (u .0 + 1, omega (arith, before))
 
-    pub usable : Sound (s .t)
-    usable = sound-within f (s .call .p) (s .call .n) (s .t) (s .ready) (u .0) (length xs) (omega (arith, before, s .end-is))
+    pub test-sound : Sound (s .t)
+    test-sound = sound-within f (s .call .p) (s .call .n) (s .t) (s .ready) (u .0) (length xs) (omega (arith, before, s .end-is))
 
     pub rows-next : {d : Query} → d ≡ new (u .0) → set (rows (u .0)) (u .0) d ≡ rows (u .0 + 1)
     rows-next d-is =
@@ -94,7 +94,7 @@ module _ (s : Prepared-call) where
   -- after the last turn the row is that of the contract
   pub rows-ended : (u : Turn) → Holds (not (ltb (u .0) (s .end))) → rows (u .0) ≡ queriesAfter f (s .call .p) (s .call .n) xs
   rows-ended u done =
-      let last : u .0 ≡ usableRows (s .t .verdict) (length xs) = omega (arith, nltb→le (u .0) (s .end) done, u .1, s .end-is) in
+      let last : u .0 ≡ answeredCount (s .t .verdict) (length xs) = omega (arith, nltb→le (u .0) (s .end) done, u .1, s .end-is) in
       ap rows last ∙ row-after f (s .call .p) (s .call .n) (s .t) (s .ready) xs
 
   -- each turn is nearer to the end
