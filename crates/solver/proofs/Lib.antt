@@ -20,9 +20,11 @@ mod Scanning
 mod Top
 mod Coefficients
 mod Verdicts
+pub mod Examples
 pub mod Testing
 pub mod Walking
 pub mod Types
+pub mod Passed
 pub mod Callers
 pub mod ManyPoints
 pub mod Answered

@@ -1,4 +1,4 @@
-// The solver: the root classes of a polynomial modulo pⁿ, and the test of one residue.
+// The solver: the root classes of a polynomial modulo pⁿ, and the test of one residue or of many.
 ghost use mathlib.Core.Path.{_≡_};
 ghost use Rattle.solver.specs.Solve.{lists as listsOf, solvedOf, listsAfter, testedOf};
 ghost use Rattle.solver.specs.Points.{testedAllOf, queriesAfter};

@@ -48,7 +48,8 @@ use denote.Exit.{yes}
 use Rattle.solver.specs.Points.{testedAllOf, queriesAfter}
 use Rattle.solver.specs.declared.Query.{Query}
 use Rattle.queries.specs.declared.Answers.{Answers}
-use Rattle.solver.proofs.Callers.{Passed, TestPoints, to-test-points, row-back}
+use Rattle.solver.proofs.Passed.{Passed}
+use Rattle.solver.proofs.Callers.{TestPoints, to-test-points, row-back}
 use Rattle.solver.proofs.Walking.{copied, Known, of-struct, val, At, typed, told, number, says-both, has}
 use Rattle.solver.proofs.Types.{query, tested-all}
 use Rattle.queries.proofs.Lending.{array-of, apart, together, in-field}

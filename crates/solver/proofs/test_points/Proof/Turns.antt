@@ -10,23 +10,24 @@ use lib.IntN.{ℤ}
 use lib.ListN.{length, getD, set}
 use lib.WfN.{Nat·lt-wfRel}
 use denote.Ref.{now}
-use Rattle.solver.specs.Points.{queriesAfter}
 use Rattle.solver.specs.inner.Points.{answeredBy, answeredCount, Ready, Sound}
 use Rattle.solver.specs.declared.Query.{Query}
 use Rattle.solver.specs.declared.points.Prepared.{Prepared}
 use Rattle.theory.proofs.Lists.Fill.{written-next, written-entry, written-length}
 use Rattle.solver.proofs.Testing.{answered-most, sound-within, rowAt, row-after}
+use Rattle.solver.proofs.Passed.{Passed, Fits, Records-are}
 use Rattle.solver.proofs.Walking.{At}
-use Rattle.solver.proofs.test_points.Proof.Calls.{prepared, Call}
+use Rattle.solver.proofs.test_points.Proof.Calls.{prepared}
 
 -- a call before its loop: the polynomial that is ready, and how many records get an answer
 pub record Prepared-call : Type 0 where
-  pub call : Call
+  pub call : Passed
+  pub fits : Fits call
   pub t : Prepared
   pub t-at : At prepared t
   pub ready : Ready (now (call .cs)) (call .p) (call .n) t
   pub end : ℕ
-  pub end-is : end ≡ answeredCount (t .verdict) (length (call .xs))
+  pub end-is : end ≡ answeredCount (t .verdict) (length (now (call .qs)))
   pub end-fits : end < 2 ^ 64
 
 -- what stands past the end of a row
@@ -38,7 +39,7 @@ module _ (s : Prepared-call) where
   f = now (s .call .cs)
 
   abbrev xs : List Query
-  xs = s .call .xs
+  xs = now (s .call .qs)
 
   end-within : s .end ≤ length xs
   end-within = omega (arith, s .end-is, answered-most (s .t .verdict) (length xs))
@@ -75,7 +76,7 @@ module _ (s : Prepared-call) where
 
     -- the record's offset in bytes, and the number of the next turn
     pub offset-fits : u .0 * 8 < 2 ^ 64
-    offset-fits = omega (arith, inside, s .call .xs-room .1)
+    offset-fits = omega (arith, inside, s .fits .qs-room .1)
 
     pub next-fits : u .0 + 1 < 2 ^ 64
     next-fits = omega (arith, before, s .end-fits)
@@ -92,7 +93,7 @@ module _ (s : Prepared-call) where
         (d-is ∙ ap (answeredBy (s .t)) (written-entry (answeredBy (s .t)) xs (u .0) none inside xs none inside))
 
   -- after the last turn the row is that of the contract
-  pub rows-ended : (u : Turn) → Holds (not (ltb (u .0) (s .end))) → rows (u .0) ≡ queriesAfter f (s .call .p) (s .call .n) xs
+  pub rows-ended : (u : Turn) → Holds (not (ltb (u .0) (s .end))) → Records-are (s .call) (rows (u .0))
   rows-ended u done =
       let last : u .0 ≡ answeredCount (s .t .verdict) (length xs) = omega (arith, nltb→le (u .0) (s .end) done, u .1, s .end-is) in
       ap rows last ∙ row-after f (s .call .p) (s .call .n) (s .t) (s .ready) xs
