@@ -3,7 +3,7 @@ use mathlib.Core.List.{List, map}
 use Prim.Native.Nat.{ℕ}
 use lib.IntN.{ℤ}
 use Rattle.refusal.specs.Number.{numberOf}
-use Rattle.refusal.specs.Rules.{Verdict, passes, refuses, tried}
+use Rattle.refusal.specs.Rules.{Verdict, passes, refuses, tried, filled}
 use Rattle.solver.specs.declared.Query.{Query}
 use Rattle.solver.specs.declared.Tested.{Tested}
 use Rattle.solver.specs.declared.Tested.the-variants as tested
@@ -25,6 +25,7 @@ answeredOf f p n q = record { point = q .point; answer = answerNumber (testedOf 
 unfoldable pub pointsVerdict : List ℤ → ℕ → ℕ → Verdict
 pointsVerdict f p n = tried (polynomialRules f p n)
 
+-- that every record has its answer, or the refusal
 abbrev pub answeredOr : Verdict → TestedAll
 answeredOr passes = Answered
 answeredOr (refuses r) = Refused r
@@ -33,11 +34,6 @@ answeredOr (refuses r) = Refused r
 unfoldable pub testedAllOf : List ℤ → ℕ → ℕ → TestedAll
 testedAllOf f p n = answeredOr (pointsVerdict f p n)
 
--- the row after a call that the rules pass or refuse; a refusal "alters no lent memory"
-abbrev pub rowAfter : Verdict → List Query → List Query → List Query
-rowAfter passes new old = new
-rowAfter (refuses r) new old = old
-
--- the lent row after a call
+-- the lent row after a call: "a bad point disturbs no other record"
 unfoldable pub queriesAfter : List ℤ → ℕ → ℕ → List Query → List Query
-queriesAfter f p n queries = rowAfter (pointsVerdict f p n) (map (answeredOf f p n) queries) queries
+queriesAfter f p n queries = filled (pointsVerdict f p n) (map (answeredOf f p n) queries) queries

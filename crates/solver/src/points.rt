@@ -26,7 +26,7 @@ pub(crate) fn test_reduced(g: &[u32], m: u64, point: u32) -> Tested
 }
 
 // A polynomial made ready: what the rules say of it, p and n, and where they pass, pⁿ and the coefficients modulo pⁿ, which are the first
-// `count` of the row.
+// `count` of the row; where they refuse, the modulus 1 and no coefficient.
 pub(crate) struct Prepared {
     verdict: TestedAll,
     modulus: u64,
@@ -49,7 +49,7 @@ pub(crate) fn prepare(coefficients: &[i64], p: u32, n: u32) -> Prepared
         }
         Modulus::Refused(r) => Prepared {
             verdict: TestedAll::Refused(r),
-            modulus: 0,
+            modulus: 1,
             count: 0,
             row: [0u32; 65],
         },

@@ -33,7 +33,7 @@ pub record Sound (t : Prepared) : Type 0 where
 -- t is f made ready for p and n
 pub record Ready (f : List ℤ) (p n : ℕ) (t : Prepared) : Type 0 where
   pub verdict : t .verdict ≡ testedAllOf f p n
-  pub sound : pointsVerdict f p n ≡ passes → Sound t
+  pub sound : Sound t
   pub answers : pointsVerdict f p n ≡ passes → (q : Query) → answeredBy t q ≡ answeredOf f p n q
 
 -- how many of so many records get an answer

@@ -1,12 +1,11 @@
 -- Lists that are filled from the front, one entry a step: what a loop that writes f of each entry of xs keeps true.
 use mathlib.Core.Path.{_≡_, refl, sym, ap, ap₂, _∙_}
-use mathlib.Core.List.{List, [], _∷_, _++_, map, append-nil}
+use mathlib.Core.List.{List, [], _∷_, _++_, map}
 use Prim.Native.Nat.{ℕ, zero, suc, _+_, _≤_, _<_}
 use native.Mathlib.Numerals.{add-one}
 use native.Mathlib.Omega.{arith}
 use lib.ListN.{length, getD, take, drop, set, replicate, length-append, length-map, length-drop}
 use lib.Seq.{getD-at, getD-set-other, getD-set-same, take-suc, take-suc-set, drop-cons, set-at, append-snoc, length-take-le, take-at}
-use lib.Seq.{take-length, drop-length}
 use native.Mathlib.Decide.{ℕ-discrete}
 use Rattle.theory.proofs.Lists.Map.{map-append}
 
@@ -60,12 +59,6 @@ pub written-length : {A B : Type 0} (f : A → B) (xs : List A) (l₀ : List B) 
 written-length f xs l₀ i hx hl =
     length-append (map f (take i xs)) (drop i l₀)
     ∙ rw (length-map (take i xs) f, length-take-le i xs hx, length-drop i l₀) (omega arith)
-
--- and where every entry is written, nothing of l₀ is left
-pub written-whole : {A B : Type 0} (f : A → B) (xs : List A) (l₀ : List B) → length l₀ ≡ length xs
-    → map f (take (length xs) xs) ++ drop (length xs) l₀ ≡ map f xs
-written-whole f xs l₀ e =
-    ap₂ (λ ys zs. map f ys ++ zs) (take-length xs) (ap (λ (k : ℕ). drop k l₀) (sym e) ∙ drop-length l₀) ∙ append-nil (map f xs)
 
 -- an entry after one store
 pub stored : {A : Type 0} (l : List A) (j k : ℕ) (v d x : A) → j < length l → (k ≡ j → v ≡ x) → ((k ≡ j → ⊥) → getD l k d ≡ x)

@@ -43,7 +43,7 @@ use Rattle.solver.proofs.test_points.Code.Mir as code
 use Rattle.solver.proofs.test_points.Proof.Calls.{prepared}
 use Rattle.solver.proofs.test_points.Proof.Calls.{Answered, Verdict, to-answered, to-verdict, asked-answered, asked-verdict}
 use Rattle.solver.proofs.test_points.Proof.Calls.{said-answered, said-verdict}
-use Rattle.solver.proofs.test_points.Proof.Turns.{Prepared-call, none, Turn, start, rows, old, new, next, within, test-sound, Nearer}
+use Rattle.solver.proofs.test_points.Proof.Turns.{Prepared-call, none, Turn, start, rows, old, new, next, within, Nearer}
 use Rattle.solver.proofs.test_points.Proof.Turns.{rows-length, rows-next, rows-ended, offset-fits, next-fits, nearer, nearer-ends}
 
 -- what is held of the two slices once the borrow is closed, with the records zs
@@ -162,7 +162,7 @@ module _ {M : Type 1} (𝓤 : URA M) (H : Heap 𝓤) (A : Atoms 𝓤) (W : Given
         (init ! 12 refl (typed query 𝓤 H A W (old s i) _ old-at)) $ move ! (1 ∷ []) $ drop ! $
         -- the call
         use0 W (raw (Answered 𝓤 H A at-mem run .pre (to-answered 𝓤 H A at-mem run (s .t) (old s i))))
-        (asked-answered 𝓤 H A at-mem run W (s .t) (s .t-at) (old s i) old-at (test-sound s u more)) $
+        (asked-answered 𝓤 H A at-mem run W (s .t) (s .t-at) (old s i) old-at (s .ready .sound)) $
         calls-at ! fm (Answered 𝓤 H A at-mem run) known-answered (to-answered 𝓤 H A at-mem run (s .t) (old s i))
         (and-then ! (copied ! 28 refl) (and-then ! (copied ! 12 refl) (no-more !))) (λ v.
         gives ! tt (‵ ftrue) Q.the-row v (λ d. d ≡ new s i) (said-answered 𝓤 H A at-mem run (s .t) (old s i))

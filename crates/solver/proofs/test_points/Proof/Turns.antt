@@ -10,11 +10,11 @@ use lib.IntN.{ℤ}
 use lib.ListN.{length, getD, set}
 use lib.WfN.{Nat·lt-wfRel}
 use denote.Ref.{now}
-use Rattle.solver.specs.inner.Points.{answeredBy, answeredCount, Ready, Sound}
+use Rattle.solver.specs.inner.Points.{answeredBy, answeredCount, Ready}
 use Rattle.solver.specs.declared.Query.{Query}
 use Rattle.solver.specs.declared.points.Prepared.{Prepared}
 use Rattle.theory.proofs.Lists.Fill.{written-next, written-entry, written-length}
-use Rattle.solver.proofs.Testing.{answered-most, sound-within, rowAt, row-after}
+use Rattle.solver.proofs.Testing.{answered-most, rowAt, row-after}
 use Rattle.solver.proofs.Passed.{Passed, Fits, Records-are}
 use Rattle.solver.proofs.Walking.{At}
 use Rattle.solver.proofs.test_points.Proof.Calls.{prepared}
@@ -53,7 +53,7 @@ module _ (s : Prepared-call) where
 
   -- the row after i turns, the record that turn i takes out, and the one that it puts back
   abbrev pub rows : ℕ → List Query
-  rows i = rowAt f (s .call .p) (s .call .n) (s .t) (s .ready) xs i
+  rows i = rowAt (s .t) xs i
 
   abbrev pub old : ℕ → Query
   old i = getD (rows i) i none
@@ -83,9 +83,6 @@ module _ (s : Prepared-call) where
 
     abbrev pub next : Turn
     next = (u .0 + 1, omega (arith, before))
-
-    pub test-sound : Sound (s .t)
-    test-sound = sound-within f (s .call .p) (s .call .n) (s .t) (s .ready) (u .0) (length xs) (omega (arith, before, s .end-is))
 
     pub rows-next : {d : Query} → d ≡ new (u .0) → set (rows (u .0)) (u .0) d ≡ rows (u .0 + 1)
     rows-next d-is =
