@@ -7,7 +7,7 @@ use native.Mathlib.Omega.{arith}
 use Rattle.refusal.specs.declared.Refusal.{Refusal}
 use Rattle.refusal.specs.declared.Refusal.the-variants.{Form, NoCoefficient, TooManyCoefficients}
 use Rattle.refusal.specs.declared.Refusal.the-variants.{PrimeOutOfRange, Composite, Precision, Lengths, Entry, Point}
-use Rattle.refusal.specs.declared.Refusal.the-variants.{MapTooLarge, MapLength, TooFewSlots, BufferTooSmall}
+use Rattle.refusal.specs.declared.Refusal.the-variants.{MapTooLarge, MapLength, TooFewSlots, BufferTooSmall, TooManyProblems}
 use Rattle.refusal.specs.Number.{numberOf, placeOf}
 use Rattle.refusal.specs.Rules.{Verdict, passes, refuses, rule, tried}
 
@@ -25,6 +25,7 @@ number-at-most MapTooLarge = omega arith
 number-at-most MapLength = omega arith
 number-at-most (TooFewSlots place) = omega arith
 number-at-most (BufferTooSmall place) = omega arith
+number-at-most (TooManyProblems place) = omega arith
 
 -- Places, from the rules one by one
 

@@ -3,7 +3,7 @@ use Prim.Native.Nat.{ℕ}
 use Rattle.refusal.specs.declared.Refusal.{Refusal}
 use Rattle.refusal.specs.declared.Refusal.the-variants.{Form, NoCoefficient, TooManyCoefficients}
 use Rattle.refusal.specs.declared.Refusal.the-variants.{PrimeOutOfRange, Composite, Precision, Lengths, Entry, Point}
-use Rattle.refusal.specs.declared.Refusal.the-variants.{MapTooLarge, MapLength, TooFewSlots, BufferTooSmall}
+use Rattle.refusal.specs.declared.Refusal.the-variants.{MapTooLarge, MapLength, TooFewSlots, BufferTooSmall, TooManyProblems}
 
 abbrev pub numberOf : Refusal → ℕ
 numberOf (Form place) = 1
@@ -19,6 +19,7 @@ numberOf MapTooLarge = 9
 numberOf MapLength = 10
 numberOf (TooFewSlots place) = 11
 numberOf (BufferTooSmall place) = 12
+numberOf (TooManyProblems place) = 13
 
 abbrev pub placeOf : Refusal → ℕ
 placeOf (Form place) = place
@@ -34,3 +35,4 @@ placeOf MapTooLarge = 0
 placeOf MapLength = 0
 placeOf (TooFewSlots place) = place
 placeOf (BufferTooSmall place) = place
+placeOf (TooManyProblems place) = place

@@ -29,6 +29,8 @@ pub enum Refusal {
     TooFewSlots(usize),
     // 12: the buffer has fewer bytes than this number
     BufferTooSmall(usize),
+    // 13: 1,000 problems of a report are done and bytes remain; the offset of the first of them
+    TooManyProblems(usize),
 }
 
 impl Refusal {
@@ -50,6 +52,7 @@ impl Refusal {
             Refusal::MapLength => 10,
             Refusal::TooFewSlots(_) => 11,
             Refusal::BufferTooSmall(_) => 12,
+            Refusal::TooManyProblems(_) => 13,
         }
     }
 
@@ -71,6 +74,7 @@ impl Refusal {
             Refusal::MapLength => 0,
             Refusal::TooFewSlots(place) => place,
             Refusal::BufferTooSmall(place) => place,
+            Refusal::TooManyProblems(place) => place,
         }
     }
 }

@@ -1,20 +1,22 @@
 -- The polynomial f(c + p·y) modulo p^e of the class one level below, at the digit c: its zeros and live classes, its node, and the room for
 -- its classes.
 use mathlib.Core.Path.{_≡_, sym, ap, _∙_}
+use mathlib.Core.Bool.{Bool}
 use mathlib.Core.List.{List}
-use Prim.Native.Nat.{ℕ, _*_, _%_, _^_, _≤_, _<_, _∣_, min}
+use Prim.Native.Nat.{ℕ, suc, _*_, _%_, _^_, _≤_, _<_, _∣_, min}
 use native.Mathlib.Decide.{decLt, decLe}
 use native.Mathlib.Nat.{dvd-zero, dvd-mul-right-of-dvd}
 use native.Mathlib.Omega.{arith}
 use lib.ListN.{length, List·getD-eq-default}
 use Rattle.theory.specs.Polynomial.{zeros}
+use Rattle.theory.specs.Shortest.{count}
 use Rattle.theory.specs.Live.{liveOf}
 use Rattle.theory.specs.inner.Tree.{branch}
 use Rattle.theory.specs.Taylor.{taylor, shifted}
 use Rattle.theory.specs.inner.Polynomial.{coef}
 use Rattle.theory.proofs.Numbers.Power.{pow-pos, pow-dvd}
 use Rattle.theory.proofs.Numbers.Prime.{prime-pos}
-use Rattle.theory.proofs.Numbers.Congruence.{Congruent, cong-sym, cong-trans, cong-of-eq, cong-mod, dvd-cong}
+use Rattle.theory.proofs.Numbers.Congruence.{Congruent, cong-sym, cong-trans, cong-of-eq, cong-mod, cong-down, dvd-cong}
 use Rattle.theory.proofs.Polynomials.Arithmetic.{coef-stretch}
 use Rattle.theory.proofs.Polynomials.Congruence.{SameModulo, zeros-same}
 use Rattle.theory.proofs.Polynomials.Orders.{AtMostOrder}
@@ -24,6 +26,7 @@ use Rattle.theory.proofs.Live.Carried.{live-same}
 use Rattle.solver.specs.declared.tree.PrimePower.{PrimePower}
 use Rattle.solver.specs.declared.tree.Node.{Node}
 use Rattle.solver.specs.inner.Table.{Residues}
+use Rattle.solver.specs.inner.Counts.{zerosAt}
 use Rattle.solver.specs.inner.Recursion.{IsPrimePower, Primitive, AtNode, childAt, mostClasses}
 use Rattle.solver.proofs.Tables.{residues-below}
 use Rattle.solver.proofs.Most.{most-order}
@@ -64,6 +67,11 @@ module _ {f : List ℕ} {M : PrimePower} {x : Node} (P : Primitive f M x) (c : �
 
   pub child-zeros : zeros g (M .p) (M .exponent) ≡ branch (zeros f (M .p) (M .exponent)) (M .p) c
   child-zeros = zeros-same g (shifted c p f) p e same ∙ sym (zeros-branch f p e c)
+
+  pub child-counts : (levels i : ℕ) → i < M .exponent → zerosAt g (M .p) levels i ≡ zerosAt (shifted c (M .p) f) (M .p) levels i
+  unfolding zerosAt
+  child-counts levels i h =
+      ap (λ (S : ℕ → Bool). count S p levels) (zeros-same g (shifted c p f) p (suc i) (λ k. cong-down (pow-dvd p h) (same k)))
 
   pub child-live : (levels : ℕ) → liveOf g (M .p) (M .exponent) levels ≡ liveOf (shifted c (M .p) f) (M .p) (M .exponent) levels
   child-live levels = live-same p (I .prime .two) e levels g (shifted c p f) same

@@ -16,6 +16,8 @@ mod Most
 mod Settling
 mod Child
 mod Counting
+mod Added
+mod ZeroCounts
 mod Scanning
 mod Top
 mod Coefficients

@@ -23,6 +23,10 @@ module _ {p : ℕ} {x : Node} (N : IsNode p x) where
   power-le =
       omega (arith, N .power-is, N .fits, pow-le-pow-right {n = p} pos {i = x .level} {j = x .level + x .left} (omega arith))
 
+  -- and so are its members below
+  pub members-fit : p ^ x .left ≤ 4294967295
+  members-fit = omega (arith, N .fits, pow-le-pow-right {n = p} pos {i = x .left} {j = x .level + x .left} (omega arith))
+
   -- so its class has a code
   pub class-fits : (x .residue < x .power) × (x .power ≤ 4294967295) × (x .level < 256)
   class-fits = (N .residue-fits, power-le, omega (arith, level-lt))

@@ -1,19 +1,25 @@
 -- What the solver and the test of a residue answer, by their rules: those on a polynomial, p and n first.
 use mathlib.Core.Path.{_≡_, refl, sym, ap, _∙_}
 use mathlib.Core.List.{List, [], _∷_, _++_}
-use Prim.Native.Nat.{ℕ, _^_, _≤_, _<_, min}
+use Prim.Native.Nat.{ℕ, suc, _+_, _^_, _≤_, _<_, min}
+use native.Mathlib.Nat.{zero-add}
 use native.Mathlib.Omega.{arith}
 use borrow.Author.Tests.{ltb-false, eqb-false}
 use lib.Dec.{eqb, ltb}
 use lib.IntN.{ℤ}
-use lib.ListN.{length}
-use Rattle.theory.specs.Polynomial.{reduced, roots}
+use lib.ListN.{length, getD}
+use Rattle.theory.specs.Polynomial.{reduced, zeros, roots}
 use Rattle.theory.specs.Shortest.{count}
 use Rattle.theory.specs.Mark.{mark}
 use Rattle.theory.specs.Live.{live}
+use Rattle.theory.specs.Counts.{countRow}
+use Rattle.theory.specs.inner.Overwritten.{Overwritten}
+use Rattle.theory.proofs.Lists.Overwritten.{written-part}
+use Rattle.theory.proofs.Numbers.Prime.{prime-pos}
+use Rattle.theory.proofs.Counts.{row-length, row-at, solutions-zeros}
 use Rattle.refusal.specs.declared.Refusal.{Refusal}
 use Rattle.refusal.specs.declared.Refusal.the-variants.{NoCoefficient, TooManyCoefficients, Lengths, TooFewSlots}
-use Rattle.refusal.specs.Rules.{Verdict, passes, refuses, tried, rule2, rule3, rule8}
+use Rattle.refusal.specs.Rules.{Verdict, passes, refuses, tried, rule2, rule3, rule8, rule11}
 use Rattle.refusal.proofs.Rules.{rule2-refuses, rule2-passes, rule3-refuses, coefficients-lead, rule-passes}
 use Rattle.refusal.proofs.Rules.{tried-leads, tried-refuses, tried-first}
 use Rattle.refusal.proofs.Rules.{rule6-three-refuses, rule6-three-passes, rule11-refuses, rule11-passes}
@@ -22,8 +28,10 @@ use Rattle.numbers.specs.Modulus.{modulusRules, modulusOf, powerOr}
 use Rattle.numbers.proofs.Rules.{accepted-means, refused-means, passes-usable}
 use Rattle.solver.specs.declared.Solved.the-variants.{Refused}
 use Rattle.solver.specs.declared.Tested.the-variants as tested
+use Rattle.solver.specs.declared.Tabulated.the-variants as tabulated
 use Rattle.solver.specs.Solve.{Lists, polynomialRules, listRules, listsFilled, solution, marksOf, foundOr, solverVerdict, solvedOf}
 use Rattle.solver.specs.Solve.{listsAfter, yesOr, testVerdict, testedOf}
+use Rattle.solver.specs.Counts.{countsVerdict, tabulatedOf, countsAfter}
 use Rattle.solver.specs.inner.UsablePolynomial.{polynomialModulus, UsablePolynomial}
 use Rattle.solver.specs.inner.Reduced.{zeroClasses, reducedVerdict, reducedSolved, reducedLists}
 
@@ -133,3 +141,38 @@ module _ (f : List ℤ) (p n point : ℕ) where
       ap (λ (v : Verdict). yesOr v (roots f p n point))
       (tried-leads (polynomialRules f p n) (rule8 point (p ^ n) ∷ []) (U .accepted)
       ∙ ap (λ (q : ℕ). tried (rule8 point q ∷ [])) (sym (U .modulus .power)))
+
+-- The row of counts
+
+module _ (f : List ℤ) (p n : ℕ) (given : List ℕ) where
+  pub counts-refused : (r : Refusal) → polynomialModulus f p n ≡ modulus.Refused r
+      → (tabulated.Refused r ≡ tabulatedOf f p n (length given)) × (given ≡ countsAfter f p n given)
+  unfolding countsVerdict tabulatedOf countsAfter
+  counts-refused r e = rw (polynomial-refused f p n r e (rule11 (length given) (suc n) ∷ [])) (refl, refl)
+
+  module _ {m : ℕ} (U : UsablePolynomial f p n m) where
+    left-to-slots : countsVerdict f p n (length given) ≡ tried (rule11 (length given) (suc n) ∷ [])
+    unfolding countsVerdict
+    left-to-slots = tried-leads (polynomialRules f p n) (rule11 (length given) (suc n) ∷ []) (U .accepted)
+
+    -- rule 11
+    pub counts-short : length given < suc n
+        → (tabulated.Refused (TooFewSlots (suc n)) ≡ tabulatedOf f p n (length given)) × (given ≡ countsAfter f p n given)
+    unfolding tabulatedOf countsAfter
+    counts-short h = rw (left-to-slots, rule11-refuses (length given) (suc n) h) (refl, refl)
+
+    pub counts-filled : {after : List ℕ} → suc n ≤ length given
+        → Overwritten (λ j. count (zeros (reduced f p n) p j) p j) 0 (suc n) given after
+        → (tabulated.Filled ≡ tabulatedOf f p n (length given)) × (after ≡ countsAfter f p n given)
+    unfolding tabulatedOf countsAfter
+    counts-filled h w =
+        rw (left-to-slots, rule11-passes (length given) (suc n) h) (
+          refl,
+          written-part (λ j. count (zeros (reduced f p n) p j) p j) 0 (suc n) (countRow f p n) given _ w
+              (sym (row-length f p (suc n)) ∙ sym (zero-add (length (countRow f p n)))) h (λ k u. same k (omega arith)),
+        )
+      where
+        same : (k : ℕ) → k < suc n → count (zeros (reduced f p n) p (0 + k)) p (0 + k) ≡ getD (countRow f p n) k 0
+        same k u =
+            ap (λ (j : ℕ). count (zeros (reduced f p n) p j) p j) (zero-add k)
+            ∙ sym (row-at f p (suc n) k u ∙ solutions-zeros f p k n (prime-pos (U .modulus .prime)) (omega arith))

@@ -7,3 +7,4 @@ pub mod Recursion
 pub mod Reduced
 pub mod UsablePolynomial
 pub mod Points
+pub mod Counts

@@ -1,7 +1,9 @@
-// The solver: the root classes of a polynomial modulo pⁿ, and the test of one residue or of many.
+// The solver: the root classes of a polynomial modulo pⁿ, the test of one residue or of many, and the root counts at every precision.
 ghost use mathlib.Core.Path.{_≡_};
+ghost use lib.ListN.{length};
 ghost use Rattle.solver.specs.Solve.{lists as listsOf, solvedOf, listsAfter, testedOf};
 ghost use Rattle.solver.specs.Points.{testedAllOf, queriesAfter};
+ghost use Rattle.solver.specs.Counts.{tabulatedOf, countsAfter};
 ghost use Rattle.solver.specs.inner.UsablePolynomial.{polynomialModulus};
 use numbers::Modulus;
 use refusal::Refusal;
@@ -19,6 +21,7 @@ mod sort;
 mod taylor;
 mod tree;
 mod valuation;
+mod zero_counts;
 
 // Rules 2, 3, 4, 14 and 5: pⁿ, or the refusal.
 fn check_polynomial(coefficients: &[i64], p: u32, n: u32) -> Modulus
@@ -115,4 +118,30 @@ pub fn test_points(coefficients: &[i64], p: u32, n: u32, queries: &mut [Query]) 
         i += 1;
     }
     points::verdict(polynomial)
+}
+
+pub enum Tabulated {
+    // the row is written
+    Filled,
+    Refused(Refusal),
+}
+
+// The number of solutions at every precision (02, 2.1): N_0, …, N_n go into the first n + 1 slots, where N_j is the number of residues below
+// p^j at which p^j divides the polynomial; later slots keep their content. Rules 2, 3, 4, 14, 5 and 11; a refusal alters nothing.
+pub fn counts(coefficients: &[i64], p: u32, n: u32, counts: &mut [u64]) -> Tabulated
+    ensures answer { λ r. ⌜ r ≡ tabulatedOf (now (coefficients .entry)) p n (length (now (counts .entry))) ⌝ }
+    ensures counts { λ _. ⌜ now (counts .exit) ≡ countsAfter (now (coefficients .entry)) p n (now (counts .entry)) ⌝ }
+{
+    match check_polynomial(coefficients, p, n) {
+        Modulus::Accepted(m) => {
+            let slots = n as usize + 1;
+            if counts.len() < slots {
+                return Tabulated::Refused(Refusal::TooFewSlots(slots));
+            }
+            let row = reduce::reduced(coefficients, m);
+            zero_counts::count_reduced(row, coefficients.len(), p, n, m, counts);
+            Tabulated::Filled
+        }
+        Modulus::Refused(r) => Tabulated::Refused(r),
+    }
 }

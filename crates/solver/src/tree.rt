@@ -1,13 +1,14 @@
 // The recursion over the digits: settling a class calls the scan of its digits, which settles each child class.
 ghost use mathlib.Core.Path.{_≡_};
-ghost use mathlib.Core.Bool.{Bool, true};
+ghost use mathlib.Core.Bool.{Bool, true, false};
 ghost use Prim.Native.Nat.{ℕ, _+_, _^_, _≤_, _<_};
 ghost use lib.ListN.{length, take};
 ghost use Rattle.theory.specs.Range.{allBelow};
 ghost use Rattle.theory.specs.Polynomial.{zeros as zerosOf};
+ghost use Rattle.theory.specs.Degree.{leastValuation, allZero, primitive};
 ghost use Rattle.theory.specs.Live.{liveOf};
-ghost use Rattle.solver.specs.inner.Table.{degreeModulo};
-ghost use Rattle.solver.specs.inner.Recursion.{IsNode, AtNode, Primitive, childAt, mostClasses, Done};
+ghost use Rattle.solver.specs.inner.Table.{Below, degreeModulo};
+ghost use Rattle.solver.specs.inner.Recursion.{IsPrimePower, lowered, IsNode, AtNode, Primitive, childAt, mostClasses, Done};
 use crate::code;
 use crate::digits;
 use crate::polynomial;
@@ -57,7 +58,7 @@ fn put_whole(node: Node, live: u64, out: &mut [u64], k: usize) -> Settled
 }
 
 // The class one level below, at the digit c.
-fn child(node: Node, p: u64, c: u64) -> Node
+pub(crate) fn child(node: Node, p: u64, c: u64) -> Node
     requires { ⌜ IsNode p node × (0 < node .left) × (c < p) ⌝ }
     ensures { λ r. ⌜ r ≡ childAt node p c ⌝ }
 {
@@ -66,6 +67,22 @@ fn child(node: Node, p: u64, c: u64) -> Node
         power: node.power * p,
         level: node.level + 1,
         left: node.left - 1,
+    }
+}
+
+// Divides g, a polynomial modulo `over`, by the largest power of p that divides every coefficient. The modulus that is left.
+pub(crate) fn make_primitive(g: &mut [u32], over: PrimePower) -> PrimePower
+    requires { ⌜ IsPrimePower over × Below (over .power) (now g) × (allZero (now g) ≡ false) ⌝ }
+    ensures quotient { λ _. ⌜ now (g .exit) ≡ primitive (over .p) (now (g .entry)) ⌝ }
+    ensures modulus { λ r. ⌜ r ≡ lowered over (leastValuation (over .p) (now (g .entry))) ⌝ }
+{
+    let s = valuation::least_valuation(g, over.p);
+    let power = numbers::power(over.p as u32, s as u32);
+    polynomial::divide(g, power as u32);
+    PrimePower {
+        p: over.p,
+        exponent: over.exponent - s,
+        power: over.power / power,
     }
 }
 
@@ -98,14 +115,7 @@ pub(crate) fn settle(
             live: 1,
         };
     }
-    let s = valuation::least_valuation(coefficients, over.p);
-    let power = numbers::power(over.p as u32, s as u32);
-    polynomial::divide(&mut g[..len], power as u32);
-    let rest = PrimePower {
-        p: over.p,
-        exponent: over.exponent - s,
-        power: over.power / power,
-    };
+    let rest = make_primitive(&mut g[..len], over);
     scan(&g[..len], rest, node, out, k)
 }
 

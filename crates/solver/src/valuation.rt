@@ -39,7 +39,7 @@ fn valuation(x: u64, p: u64) -> u64
 }
 
 // The smaller of `best` and the valuation of x, where x is not 0.
-fn lower(best: u64, x: u64, p: u64) -> u64
+pub(crate) fn lower(best: u64, x: u64, p: u64) -> u64
     requires { ⌜ 2 ≤ p ⌝ }
     ensures { λ r. ⌜ r ≡ lowerOf p best x ⌝ }
 {

@@ -7,10 +7,12 @@ pub mod Range
 pub mod Passing
 pub mod Least
 pub mod Sums
+pub mod Counting
 pub mod Classes
 pub mod Polynomials
 pub mod Mark
 pub mod Live
+pub mod Counts
 pub mod RootMap
 pub mod Stepping
 pub mod ThirdDemand

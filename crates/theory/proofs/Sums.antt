@@ -34,6 +34,24 @@ sum-same f g zero c h = refl
 sum-same f g (suc k) c h =
     ap₂ (λ (x y : ℕ). x + y) (h c (omega arith) (omega arith)) (sum-same f g k (suc c) (λ x l b. h x (omega arith) (omega arith)))
 
+pub sum-none : (k c : ℕ) → sumFrom (λ x. 0) c k ≡ 0
+unfolding sumFrom
+sum-none zero c = refl
+sum-none (suc k) c = omega (arith, sum-none k (suc c))
+
+pub sum-both : (f g : ℕ → ℕ) (k c : ℕ) → sumFrom (λ x. f x + g x) c k ≡ sumFrom f c k + sumFrom g c k
+unfolding sumFrom
+sum-both f g zero c = refl
+sum-both f g (suc k) c = omega (arith, sum-both f g k (suc c))
+
+-- a range that starts later
+pub sum-from : (f : ℕ → ℕ) (k c i : ℕ) → sumFrom f (c + i) k ≡ sumFrom (λ x. f (x + i)) c k
+unfolding sumFrom
+sum-from f zero c i = refl
+sum-from f (suc k) c i =
+    let e : suc (c + i) ≡ suc c + i = omega arith in
+    ap (λ (s : ℕ). f (c + i) + s) (ap (λ (x : ℕ). sumFrom f x k) e ∙ sum-from f k (suc c) i)
+
 -- Over the entries
 
 sum-over-last : (f : ℕ → ℕ) (l : List ℕ) (a : ℕ) → sumOver f (l ++ (a ∷ [])) ≡ sumOver f l + f a
@@ -44,6 +62,13 @@ sum-over-last f (b ∷ l) a = rw (sum-over-last f l a) (omega arith)
 -- one entry more
 pub sum-over-next : (f : ℕ → ℕ) (l : List ℕ) (i : ℕ) → i < length l → sumOver f (take (i + 1) l) ≡ sumOver f (take i l) + f (getD l i 0)
 sum-over-next f l i h = ap (sumOver f) (take-next l i 0 h) ∙ sum-over-last f (take i l) (getD l i 0)
+
+-- the first entries make no more than all
+pub sum-over-taken : (f : ℕ → ℕ) (k : ℕ) (l : List ℕ) → sumOver f (take k l) ≤ sumOver f l
+unfolding sumOver
+sum-over-taken f zero l = omega arith
+sum-over-taken f (suc k) [] = omega arith
+sum-over-taken f (suc k) (a ∷ l) = omega (arith, sum-over-taken f k l)
 
 pub sum-over-most : (f : ℕ → ℕ) (b : ℕ) (l : List ℕ) → ((a : ℕ) → f a ≤ b) → sumOver f l ≤ length l * b
 unfolding sumOver
@@ -59,6 +84,14 @@ length-sum (a ∷ l) = omega (arith, length-sum l)
 unfoldable pub where-passes : Bool → ℕ → ℕ
 where-passes true x = x
 where-passes false x = 0
+
+pub passes-on : (x : ℕ) → where-passes true x ≡ x
+unfolding where-passes
+passes-on x = refl
+
+pub passes-off : (x : ℕ) → where-passes false x ≡ 0
+unfolding where-passes
+passes-off x = refl
 
 -- over the numbers of a range that pass a test
 pub sum-over-passing : (test : ℕ → Bool) (f : ℕ → ℕ) (k i : ℕ)

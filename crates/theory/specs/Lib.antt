@@ -12,6 +12,7 @@ pub mod SignedClass
 pub mod SignedList
 pub mod Mark
 pub mod Live
+pub mod Counts
 pub mod Simple
 pub mod ClassList
 pub mod RootMap

@@ -2,7 +2,7 @@
 use mathlib.Core.Path.{_≡_}
 use mathlib.Core.Bool.{Bool, true, false}
 use mathlib.Core.List.{List, _++_, map}
-use Prim.Native.Nat.{ℕ, _+_, _-_, _*_, _^_, _≤_, _<_}
+use Prim.Native.Nat.{ℕ, _+_, _-_, _*_, _/_, _^_, _≤_, _<_}
 use lib.ListN.{length, take}
 use Rattle.theory.specs.Range.{allBelow}
 use Rattle.theory.specs.Prime.{Prime}
@@ -22,6 +22,10 @@ pub record IsPrimePower (M : PrimePower) : Type 0 where
   pub small : M .p ≤ 65535
   pub power-is : M .power ≡ M .p ^ M .exponent
   pub fits : M .power ≤ 4294967295
+
+-- the modulus divided by p^s
+abbrev pub lowered : PrimePower → ℕ → PrimePower
+lowered M s = record { p = M .p; exponent = M .exponent - s; power = M .power / M .p ^ s }
 
 -- a node holds a class a/t of the tree of digits to the base p, with p^t and the number of levels below it, all of them within 32 bits
 pub record IsNode (p : ℕ) (x : Node) : Type 0 where

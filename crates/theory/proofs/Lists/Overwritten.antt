@@ -14,6 +14,27 @@ use Rattle.theory.proofs.Lists.Map.{map-kept, getD-map}
 pub written-none : (F : ℕ → ℕ) (n : ℕ) (l : List ℕ) → Overwritten F n n l l
 written-none F n l = record { long = refl; inside = λ k a b. absurd (omega arith); below = λ k h. refl; above = λ k h. refl }
 
+-- in two steps
+pub written-twice : {F : ℕ → ℕ} {lo mid hi : ℕ} {l₀ l₁ l₂ : List ℕ} → Overwritten F lo mid l₀ l₁ → mid ≤ hi → Overwritten F lo hi l₁ l₂
+    → Overwritten F lo hi l₀ l₂
+written-twice a h b =
+    record {
+      long = b .long ∙ a .long;
+      inside = b .inside;
+      below = λ k u. b .below k u ∙ a .below k u;
+      above = λ k u. b .above k u ∙ a .above k (omega arith);
+    }
+
+-- and again
+pub written-again : {F : ℕ → ℕ} {lo hi : ℕ} {l₀ l : List ℕ} → Overwritten F lo hi l₀ l → Overwritten F lo hi l l
+written-again w = record { long = refl; inside = w .inside; below = λ k u. refl; above = λ k u. refl }
+
+-- by the same numbers otherwise written
+pub written-same : {F G : ℕ → ℕ} {lo hi : ℕ} {l₀ l : List ℕ} → ((k : ℕ) → lo ≤ k → k < hi → F k ≡ G k) → Overwritten F lo hi l₀ l
+    → Overwritten G lo hi l₀ l
+written-same e w =
+    record { long = w .long; inside = λ k a b. w .inside k a b ∙ e k a b; below = w .below; above = w .above }
+
 module _ {F : ℕ → ℕ} {lo hi : ℕ} {l₀ l : List ℕ} (w : Overwritten F lo hi l₀ l) (j v : ℕ) (h : j < length l₀) (e : v ≡ F j) where
   -- a step upwards
   pub written-up : lo ≤ j → hi ≡ j → Overwritten F lo (j + 1) l₀ (set l j v)

@@ -55,6 +55,11 @@ no-zero-below f p e c h none y =
     none (cong-dvd (cong-argument f (record { same = add-mul-mod-self-left c p y }))
     (dvd-trans p (base-dvd p h) (zero-dvd f p e (c + p * y) u))))
 
+-- p^n further on it is the same
+pub zeros-periodic : (f : List ℕ) (p n x k : ℕ) → zeros f p n (x + p ^ n * k) ≡ zeros f p n x
+unfolding zeros divides
+zeros-periodic f p n x k = rw (cong-argument f {x = x + p ^ n * k} {y = x} (record { same = add-mul-mod-self-left x (p ^ n) k }) .same)
+
 -- modulo p^0 everything is a zero
 pub zeros-everything : (f : List ℕ) (p y : ℕ) → zeros f p 0 y ≡ true
 zeros-everything f p y = dvd-zero-at f p 0 y (rw (pow-zero p) (one-dvd (value f y)))

@@ -8,15 +8,13 @@ use Rattle.solver.proofs.tree.+scan+settle.Lts-scan as scan-lts
 use Rattle.solver.proofs.tree.settle.Reads as settle
 use Rattle.solver.proofs.tree.settle.Kinds as settle-kinds
 use Rattle.solver.proofs.tree.+scan+settle.Lts-settle as settle-lts
-use Rattle.numbers.proofs.power.Reads as power
 use Rattle.numbers.proofs.smaller.Reads as smaller
 use Rattle.solver.proofs.digits.zero_digits.Reads as zero-digits
 use Rattle.solver.proofs.polynomial.all_zero.Reads as all-zero
-use Rattle.solver.proofs.polynomial.divide.Reads as divide
 use Rattle.solver.proofs.taylor.shift.Reads as shift
 use Rattle.solver.proofs.tree.child.Reads as child
+use Rattle.solver.proofs.tree.make_primitive.Reads as make-primitive
 use Rattle.solver.proofs.tree.put_whole.Reads as put-whole
-use Rattle.solver.proofs.valuation.least_valuation.Reads as least-valuation
 
 abbrev pub μ-scan : Measures 2 scan-kinds.ps ℕ
 μ-scan κs a = 2 * a .1 .1 .0 .left
@@ -58,12 +56,8 @@ settle-calls t = (
   all-zero.Learnt,
   put-whole.Asked,
   put-whole.Learnt,
-  least-valuation.Asked,
-  least-valuation.Learnt,
-  power.Asked,
-  power.Learnt,
-  divide.Asked,
-  divide.Learnt,
+  make-primitive.Asked,
+  make-primitive.Learnt,
   scan-below t,
   scan.Post,
 )

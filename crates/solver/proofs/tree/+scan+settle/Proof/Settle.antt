@@ -1,8 +1,8 @@
 -- The needs of `settle`.
-use mathlib.Core.Path.{_≡_, sym, ap, _∙_}
+use mathlib.Core.Path.{_≡_, sym, ap, ap₂, _∙_, subst₂}
 use mathlib.Core.Bool.{Bool, true, false}
 use mathlib.Core.List.{List, _++_}
-use Prim.Native.Nat.{ℕ, _^_, _<_, _≤_}
+use Prim.Native.Nat.{ℕ, _+_, _^_, _<_, _≤_}
 use borrow.Author.Needs.{needs}
 use borrow.Author.Tests.{eq-eqb, ne-eqb}
 use borrow.Fn.Kinds.{In}
@@ -12,17 +12,19 @@ use lib.ListN.{length, length-append, getD, take, drop}
 use lib.Seq.{length-take-le, take-at}
 use Rattle.theory.specs.Range.{allBelow}
 use Rattle.theory.specs.Polynomial.{zeros}
-use Rattle.theory.specs.Degree.{allZero}
+use Rattle.theory.specs.Live.{liveOf}
+use Rattle.theory.specs.Degree.{primitive, allZero}
 use Rattle.theory.proofs.Numbers.Power.{pow-pos, exponent-lt}
 use Rattle.theory.proofs.Numbers.Prime.{prime-pos}
 use Rattle.numbers.proofs.Saturated.{saturated-within}
 use Rattle.solver.specs.declared.tree.PrimePower.{PrimePower}
 use Rattle.solver.specs.declared.tree.Node.{Node}
-use Rattle.solver.specs.inner.Recursion.{AtNode}
+use Rattle.solver.specs.inner.Table.{degreeModulo}
+use Rattle.solver.specs.inner.Recursion.{AtNode, Primitive, Done}
 use Rattle.solver.proofs.Node.{class-fits}
 use Rattle.solver.proofs.Counting.{counted-finished, counted-last}
 use Rattle.solver.proofs.Settling.{zero-whole, last-whole, last-none, whole-room, first-entry, valuation-lt, power-fits}
-use Rattle.solver.proofs.Settling.{lowered, Quotient, quotient}
+use Rattle.solver.proofs.Settling.{Quotient, quotient}
 use Rattle.solver.proofs.tree.settle.Reads as reads
 use Rattle.solver.proofs.tree.settle.Kinds as kinds
 use Rattle.solver.proofs.tree.+scan+settle.Lts-settle as lts
@@ -146,101 +148,60 @@ module _ (t : ℕ) where
 
   -- Else the coefficients are divided by p^s, and the digits are scanned
 
-  module _ (c : lts.After-least-valuation calls at reads.Post) where
+  module _ (c : lts.After-make-primitive calls at reads.Post) where
     abbrev deep : lts.Else2 calls at reads.Post
-    deep = c .before
+    deep = c .before .before
 
     abbrev deep-call : lts.Start calls at reads.Post
     deep-call = call (deep .before .before .before)
 
-    abbrev z : allZero (f deep-call) ≡ false
-    z = some-left (deep .before .before)
-
-    abbrev s : ℕ
-    s = c .least-valuation .result
-
-    fits : M deep-call .p ^ s ≤ 4294967295
-    fits = power-fits (N deep-call) z (c .least-valuation .ensures)
-
-  module _ (c : lts.After-power calls at reads.Post) where
-    abbrev valued : lts.After-least-valuation calls at reads.Post
-    valued = c .before .before
-
-    power-is : c .power .result ≡ M (deep-call valued) .p ^ s valued
-    power-is = c .power .ensures ∙ saturated-within _ (omega (arith, fits valued))
-
-    power-pos : 0 < c .power .result
-    power-pos = rw power-is (pow-pos _ (prime-pos (N (deep-call valued) .modulus .prime)) (s valued))
-
-  module _ (c : lts.After-divide calls at reads.Post) where
-    abbrev powered : lts.After-power calls at reads.Post
-    powered = c .before .before
-
-    abbrev divided-call : lts.Start calls at reads.Post
-    divided-call = deep-call (valued powered)
-
     abbrev h : List ℕ
-    h = take (divided-call .args .len) (c .divide .last .0 ++ drop (divided-call .args .len) (divided-call .args .t1))
+    h = take (deep-call .args .len) (c .make-primitive .last .0 ++ drop (deep-call .args .len) (deep-call .args .t1))
 
-    part-long : length (c .divide .last .0) ≡ divided-call .args .len
-    part-long = c .divide .kept .0 ∙ long divided-call
+    part-long : length (c .make-primitive .last .0) ≡ deep-call .args .len
+    part-long = c .make-primitive .kept .0 ∙ long deep-call
 
-    part : h ≡ c .divide .last .0
-    part = take-at (c .divide .last .0) (drop (divided-call .args .len) (divided-call .args .t1)) (divided-call .args .len) part-long
+    h-is : h ≡ primitive (M deep-call .p) (f deep-call)
+    h-is =
+        take-at (c .make-primitive .last .0) (drop (deep-call .args .len) (deep-call .args .t1)) (deep-call .args .len) part-long
+        ∙ c .make-primitive .ensures .0
 
-    divided-is : Quotient (f divided-call) (M divided-call) (x divided-call) h
-        (lowered (M divided-call) (s (valued powered)) (powered .power .result))
-    divided-is =
-        let v = valued powered in
-        quotient (N divided-call) (z v) (v .least-valuation .ensures) (power-is powered) (part ∙ c .divide .ensures)
-        (omega (arith, deep v .if2 .left))
-
-  least-valuation-requires : lts.Need-least-valuation-requires calls at reads.Post
-  least-valuation-requires c κs = let some = c .before .before in (N (call (some .before)) .node .base, some-left some)
-
-  cast-power : lts.Need-cast-power calls at reads.Post
-  cast-power c = omega (arith, N (deep-call (c .before)) .modulus .small)
-
-  cast-power-2 : lts.Need-cast-power-2 calls at reads.Post
-  cast-power-2 c =
-      let v = c .before in
-      omega (arith, exponent-lt (M (deep-call v) .p) (s v) 32 (N (deep-call v) .node .base) (omega (arith, fits v)))
-
-  power-requires : lts.Need-power-requires calls at reads.Post
-  power-requires c κs = search needs
+    divided-is : Quotient (f deep-call) (M deep-call) (x deep-call)
+    divided-is = quotient (N deep-call) (some-left (deep .before .before)) (omega (arith, deep .if2 .left))
 
   array-borrow-prefix-g : lts.Need-array-borrow-prefix-g calls at reads.Post
   array-borrow-prefix-g c = search needs
 
-  slice-aggregate-divide : lts.Need-slice-aggregate-divide calls at reads.Post
-  slice-aggregate-divide c = sym (long (deep-call (valued (c .before))))
+  slice-aggregate-make-primitive : lts.Need-slice-aggregate-make-primitive calls at reads.Post
+  slice-aggregate-make-primitive c = sym (long (call (c .before .before .before .before)))
 
-  cast-divide : lts.Need-cast-divide calls at reads.Post
-  cast-divide c = omega (arith, power-is (c .before), fits (valued (c .before)))
-
-  divide-requires : lts.Need-divide-requires calls at reads.Post
-  divide-requires c κs = power-pos (c .before)
-
-  sub-t28 : lts.Need-sub-t28 calls at reads.Post
-  sub-t28 c =
-      let v = valued (powered (c .before .before)) in
-      omega (arith, valuation-lt (N (deep-call v)) (z v) (v .least-valuation .ensures))
-
-  div-t29 : lts.Need-div-t29 calls at reads.Post
-  div-t29 c = power-pos (powered (c .before .before .before))
+  make-primitive-requires : lts.Need-make-primitive-requires calls at reads.Post
+  make-primitive-requires c κs =
+      let some = c .before .before .before in
+      let n = N (call (some .before)) in
+      (n .modulus, n .below, some-left some)
 
   array-share-prefix-g-2 : lts.Need-array-share-prefix-g-2 calls at reads.Post
   array-share-prefix-g-2 c =
-      let w = c .before .before .before in
-      omega (arith, part-long w, length-append (w .divide .last .0) (drop (divided-call w .args .len) (divided-call w .args .t1)))
+      let w = c .before in
+      omega (
+        arith,
+        part-long w,
+        length-append (w .make-primitive .last .0) (drop (deep-call w .args .len) (deep-call w .args .t1)),
+      )
 
   slice-aggregate-scan : lts.Need-slice-aggregate-scan calls at reads.Post
-  slice-aggregate-scan c = let w = c .before .before .before .before in sym (ap length (part w) ∙ part-long w)
+  slice-aggregate-scan c = let w = c .before .before in sym (ap length (h-is w) ∙ sym (ap length (w .make-primitive .ensures .0)) ∙ part-long w)
 
   scan-requires : lts.Need-scan-requires calls at reads.Post
   scan-requires c κs =
-      let w = c .before .before .before .before .before in
-      (omega (arith, divided-call w .pre .0), (divided-is w .primitive, omega (arith, divided-call w .pre .1 .2, divided-is w .degree)))
+      let w = c .before .before .before in
+      let a = deep-call w in
+      let d = divided-is w in (
+        omega (arith, a .pre .0),
+        subst₂ (λ (g : List ℕ) (R : PrimePower). Primitive g R (x a) × (a .args .k + degreeModulo (R .p) g ≤ length (a .args .out .now)))
+            (sym (h-is w)) (sym (w .make-primitive .ensures .1)) (d .primitive-at, omega (arith, a .pre .1 .2, d .degree)),
+      )
 
   same-length-3 : lts.Need-same-length-3 calls at reads.Post
   same-length-3 c = search needs
@@ -248,14 +209,19 @@ module _ (t : ℕ) where
   returns-4 : lts.Need-returns-4 calls at reads.Post
   returns-4 c =
       let scanned = c .before .before in
-      let d = divided-is (scanned .before .before .before .before .before .before) in (
-        rw (d .same-zeros) (scanned .scan .ensures .0),
-        scanned .scan .ensures .1 ∙ sym (d .same-live),
-      )
+      let w = scanned .before .before .before .before in
+      let a = deep-call w in
+      let d = divided-is w in
+      let r = scanned .scan .result in
+      let ends =
+      subst₂ (λ (g : List ℕ) (R : PrimePower).
+      Done (zeros g (R .p) (R .exponent)) (R .p) (x a) (a .args .k) r (a .args .out .now) (scanned .scan .last .1 .1 .1 .0)
+      × (r .live ≡ liveOf g (R .p) (R .exponent) (x a .left)))
+      (h-is w) (w .make-primitive .ensures .1) (scanned .scan .ensures) in
+      (rw (d .all-zeros) (ends .0), ends .1 ∙ sym (d .same-live))
 
   pub settle-closed : {M : Type 1} → lts.Closed calls at reads.Post M
   settle-closed =
       lts.spec calls at reads.Post array-share-prefix-g slice-aggregate-coefficients all-zero-requires put-whole-requires same-length
-      returns array-read-if3 put-whole-requires-2 same-length-2 returns-2 returns-3 least-valuation-requires cast-power cast-power-2
-      power-requires array-borrow-prefix-g slice-aggregate-divide cast-divide divide-requires sub-t28 div-t29 array-share-prefix-g-2
-      slice-aggregate-scan scan-requires same-length-3 returns-4
+      returns array-read-if3 put-whole-requires-2 same-length-2 returns-2 returns-3 array-borrow-prefix-g slice-aggregate-make-primitive
+      make-primitive-requires array-share-prefix-g-2 slice-aggregate-scan scan-requires same-length-3 returns-4
