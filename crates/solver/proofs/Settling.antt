@@ -1,5 +1,5 @@
 -- One class settled: whole at once, not at all, or after a division by the common power of p.
-use mathlib.Core.Path.{_≡_, refl, sym, ap, ap₂, _∙_}
+use mathlib.Core.Path.{_≡_, refl, sym, ap, _∙_}
 use mathlib.Core.Bool.{Bool, true, false}
 use mathlib.Core.List.{List, map}
 use Prim.Native.Nat.{ℕ, zero, suc, _+_, _-_, _*_, _/_, _^_, _≤_, _<_, _∣_}
@@ -9,7 +9,7 @@ use lib.Dec.{eqb}
 use lib.ListN.{length, length-map, getD, take}
 use lib.Seq.{getD-take}
 use Rattle.theory.specs.Range.{allBelow}
-use Rattle.theory.specs.Polynomial.{zeros, divided}
+use Rattle.theory.specs.Polynomial.{zeros}
 use Rattle.theory.specs.Degree.{leastValuation, primitive, degreeBound, allZero, every}
 use Rattle.theory.specs.Live.{liveOf}
 use Rattle.theory.specs.inner.Polynomial.{coef}

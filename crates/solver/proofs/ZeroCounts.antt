@@ -2,25 +2,23 @@
 -- by digit.
 use mathlib.Core.Path.{_≡_, refl, sym, ap, ap₂, _∙_, fun-ext}
 use mathlib.Core.Bool.{Bool, true, false}
-use mathlib.Core.List.{List, [], _++_}
-use Prim.Native.Nat.{ℕ, zero, suc, _+_, _-_, _*_, _/_, _^_, _≤_, _<_, _∣_, min}
+use mathlib.Core.List.{List, []}
+use Prim.Native.Nat.{ℕ, zero, suc, _+_, _-_, _/_, _^_, _≤_, _<_, _∣_}
 use native.Mathlib.Nat.{dvd-zero, dvd-trans, pow-zero, mod-eq-zero-of-dvd, mul-div-cancel-left}
 use native.Mathlib.Omega.{arith}
 use native.Mathlib.Decide.{ℕ-discrete}
-use lib.ListN.{length, getD, take, drop, length-drop}
-use lib.Seq.{getD-drop, take-all, take-take}
-use Rattle.theory.specs.Polynomial.{vanishes, zeros, value}
-use Rattle.theory.specs.Degree.{valuation, leastValuation, primitive, allZero}
+use lib.ListN.{length, getD, take}
+use lib.Seq.{take-take}
+use Rattle.theory.specs.Polynomial.{vanishes, zeros}
+use Rattle.theory.specs.Degree.{leastValuation, primitive, allZero}
 use Rattle.theory.specs.Shortest.{count}
 use Rattle.theory.specs.Taylor.{shifted}
 use Rattle.theory.specs.Live.{sumOver}
 use Rattle.theory.specs.inner.Tree.{branch}
 use Rattle.theory.specs.inner.Polynomial.{coef}
-use Rattle.theory.specs.inner.Overwritten.{Overwritten}
 use Rattle.theory.proofs.Lists.Overwritten.{written-same}
 use Rattle.theory.proofs.Tests.{contradiction, not-holding}
 use Rattle.theory.proofs.Numbers.Power.{pow-pos, pow-dvd}
-use Rattle.theory.proofs.Numbers.Prime.{prime-pos}
 use Rattle.theory.proofs.Numbers.Valuation.{valuation-dvd, le-valuation}
 use Rattle.theory.proofs.Passing.{passing-most}
 use Rattle.theory.proofs.Sums.{passes-on, passes-off, sum-over-next, sum-over-taken}

@@ -1,10 +1,10 @@
 -- The numbers of solutions at every precision (02, 2.1): what N_j counts, and how all of them are had from counts of residues below pⁿ.
-use mathlib.Core.Path.{_≡_, refl, sym, ap, ap₂, _∙_}
+use mathlib.Core.Path.{_≡_, refl, sym, ap, _∙_}
 use mathlib.Core.Logic.{_↔_}
 use mathlib.Core.Bool.{Bool}
 use mathlib.Core.List.{List, [], _∷_, _++_}
-use Prim.Native.Nat.{ℕ, zero, suc, _+_, _-_, _*_, _^_, _≤_, _<_}
-use native.Mathlib.Nat.{add-mul-mod-self-left, mul-comm}
+use Prim.Native.Nat.{ℕ, zero, suc, _-_, _*_, _^_, _≤_, _<_}
+use native.Mathlib.Nat.{mul-comm}
 use native.Mathlib.Omega.{arith}
 use native.Mathlib.Decide.{decLt}
 use lib.IntN.{ℤ}
@@ -12,18 +12,18 @@ use lib.ListN.{length, length-append, getD, List·getD-append}
 use lib.Seq.{getD-at}
 use Rattle.theory.specs.Lists.{In}
 use Rattle.theory.specs.Range.{passing}
-use Rattle.theory.specs.Polynomial.{reduce, reduced, zeros, roots, valueℤ, Multiple}
+use Rattle.theory.specs.Polynomial.{reduced, zeros, roots, valueℤ, Multiple}
 use Rattle.theory.specs.Shortest.{count}
 use Rattle.theory.specs.Counts.{solutions, countsBelow}
 use Rattle.theory.proofs.Lists.NoRepeat.{NoRepeat}
 use Rattle.theory.proofs.Numbers.Power.{pow-pos, pow-dvd, pow-split}
-use Rattle.theory.proofs.Numbers.Congruence.{Congruent, cong-refl, cong-residue, cong-sym}
+use Rattle.theory.proofs.Numbers.Congruence.{cong-refl, cong-residue, cong-sym}
 use Rattle.theory.proofs.Numbers.Reduction.{reduce-down}
 use Rattle.theory.proofs.Range.{passing-sound, passing-complete, passing-no-repeat}
 use Rattle.theory.proofs.Passing.{passing-most}
 use Rattle.theory.proofs.Sums.{passes-on}
 use Rattle.theory.proofs.Counting.{count-one, periods-total}
-use Rattle.theory.proofs.Polynomials.Congruence.{SameModulo, cong-argument, zeros-same}
+use Rattle.theory.proofs.Polynomials.Congruence.{SameModulo, zeros-same}
 use Rattle.theory.proofs.Polynomials.Zeros.{zeros-everything, zeros-periodic}
 use Rattle.theory.proofs.Polynomials.Signed.{root-signed}
 

@@ -74,6 +74,21 @@ table =
 unfoldable pub liveColumn : List ℕ
 liveColumn = 6 ∷ 4 ∷ 3 ∷ 2 ∷ 2 ∷ 1 ∷ 1 ∷ 1 ∷ 5 ∷ 2 ∷ []
 
+-- the row N_0 to N_n of each (02, 2.1)
+unfoldable pub countColumn : List (List ℕ)
+countColumn =
+    (1 ∷ 1 ∷ 2 ∷ 4 ∷ 4 ∷ [])
+    ∷ (1 ∷ 1 ∷ 2 ∷ 4 ∷ [])
+    ∷ (1 ∷ 2 ∷ [])
+    ∷ (1 ∷ 1 ∷ 3 ∷ [])
+    ∷ (1 ∷ 1 ∷ 0 ∷ [])
+    ∷ (1 ∷ 5 ∷ 25 ∷ [])
+    ∷ (1 ∷ 5 ∷ 25 ∷ [])
+    ∷ (1 ∷ 5 ∷ 0 ∷ [])
+    ∷ (1 ∷ 2 ∷ 2 ∷ [])
+    ∷ (1 ∷ 3 ∷ 3 ∷ [])
+    ∷ []
+
 -- "Polynomials with equal root sets may differ in it": 1 and x² + 2 modulo 4 have no root
 abbrev pub one : Problem
 one = record { f = pos 1 ∷ []; p = 2; n = 2 }

@@ -3,7 +3,7 @@ use mathlib.Core.Path.{_≡_, refl, ap}
 use Prim.Native.Nat.{ℕ, _+_, _-_, _≤_}
 use native.Mathlib.Omega.{arith}
 use borrow.Author.Needs.{needs}
-use lib.ListN.{length, getD}
+use lib.ListN.{getD}
 use Rattle.theory.specs.inner.Overwritten.{Overwritten}
 use Rattle.theory.proofs.Lists.Overwritten.{written-none, written-up}
 use Rattle.solver.proofs.zero_counts.add.Statement.{statement}

@@ -1,7 +1,7 @@
 -- `solver::zero_counts::write_counts` meets its contract. The invariant: N_0, …, N_j are written, and `rest` is p^(n − j).
 use mathlib.Core.Path.{_≡_, refl, sym, ap, _∙_}
 use mathlib.Core.List.{List}
-use Prim.Native.Nat.{ℕ, zero, suc, _+_, _-_, _*_, _/_, _^_, _≤_, _<_}
+use Prim.Native.Nat.{ℕ, suc, _+_, _-_, _/_, _^_, _≤_, _<_}
 use native.Mathlib.Numerals.{add-one}
 use native.Mathlib.Nat.{mul-div-cancel, pow-suc, sub-zero}
 use native.Mathlib.Omega.{arith}

@@ -1,5 +1,5 @@
 -- The needs of `settle`.
-use mathlib.Core.Path.{_≡_, sym, ap, ap₂, _∙_, subst₂}
+use mathlib.Core.Path.{_≡_, sym, ap, _∙_, subst₂}
 use mathlib.Core.Bool.{Bool, true, false}
 use mathlib.Core.List.{List, _++_}
 use Prim.Native.Nat.{ℕ, _+_, _^_, _<_, _≤_}
@@ -14,16 +14,13 @@ use Rattle.theory.specs.Range.{allBelow}
 use Rattle.theory.specs.Polynomial.{zeros}
 use Rattle.theory.specs.Live.{liveOf}
 use Rattle.theory.specs.Degree.{primitive, allZero}
-use Rattle.theory.proofs.Numbers.Power.{pow-pos, exponent-lt}
-use Rattle.theory.proofs.Numbers.Prime.{prime-pos}
-use Rattle.numbers.proofs.Saturated.{saturated-within}
 use Rattle.solver.specs.declared.tree.PrimePower.{PrimePower}
 use Rattle.solver.specs.declared.tree.Node.{Node}
 use Rattle.solver.specs.inner.Table.{degreeModulo}
 use Rattle.solver.specs.inner.Recursion.{AtNode, Primitive, Done}
 use Rattle.solver.proofs.Node.{class-fits}
 use Rattle.solver.proofs.Counting.{counted-finished, counted-last}
-use Rattle.solver.proofs.Settling.{zero-whole, last-whole, last-none, whole-room, first-entry, valuation-lt, power-fits}
+use Rattle.solver.proofs.Settling.{zero-whole, last-whole, last-none, whole-room, first-entry}
 use Rattle.solver.proofs.Settling.{Quotient, quotient}
 use Rattle.solver.proofs.tree.settle.Reads as reads
 use Rattle.solver.proofs.tree.settle.Kinds as kinds

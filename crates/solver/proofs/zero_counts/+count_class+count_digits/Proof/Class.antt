@@ -1,12 +1,12 @@
 -- The needs of `count_class`.
 use mathlib.Core.Path.{_≡_, sym, ap, ap₂, _∙_, subst₂}
-use mathlib.Core.Bool.{Bool, true, false}
+use mathlib.Core.Bool.{true, false}
 use mathlib.Core.List.{List, _++_}
 use Prim.Native.Nat.{ℕ, _+_, _-_, _^_, _<_, _≤_}
 use borrow.Author.Needs.{needs}
 use borrow.Fn.Kinds.{In}
 use native.Mathlib.Omega.{arith}
-use lib.ListN.{length, length-append, getD, take, drop}
+use lib.ListN.{length, length-append, take, drop}
 use lib.Seq.{length-take-le, take-at}
 use Rattle.theory.specs.Degree.{primitive, leastValuation, allZero}
 use Rattle.theory.specs.inner.Polynomial.{coef}

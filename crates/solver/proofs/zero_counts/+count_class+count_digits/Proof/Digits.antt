@@ -1,21 +1,19 @@
 -- The needs of `count_digits`: one digit after the other.
-use mathlib.Core.Path.{_≡_, refl, sym, ap, ap₂, _∙_, subst₂}
+use mathlib.Core.Path.{_≡_, refl, sym, ap, _∙_, subst₂}
 use mathlib.Core.List.{List, _++_}
-use Prim.Native.Nat.{ℕ, suc, _+_, _-_, _≤_, _<_, min}
+use Prim.Native.Nat.{ℕ, suc, _-_, _≤_, _<_, min}
 use native.Mathlib.Nat.{le-refl}
 use native.Mathlib.Omega.{arith}
 use borrow.Author.Needs.{needs}
 use borrow.Fn.Kinds.{In}
 use lib.ListN.{length, getD, take, drop, replicate}
 use lib.Seq.{length-take-le, take-at}
-use Rattle.theory.specs.Range.{passing}
 use Rattle.theory.specs.Polynomial.{vanishes}
 use Rattle.theory.specs.Live.{sumOver}
 use Rattle.theory.proofs.Lists.Fill.{replicate-taken}
 use Rattle.theory.proofs.Passing.{taken-prefix}
 use Rattle.solver.specs.declared.tree.PrimePower.{PrimePower}
 use Rattle.solver.specs.declared.tree.Node.{Node}
-use Rattle.solver.specs.inner.Table.{zeroDigits}
 use Rattle.solver.specs.inner.Recursion.{Primitive, AtNode, childAt}
 use Rattle.solver.specs.inner.Counts.{Room, Added, zerosAt}
 use Rattle.solver.proofs.Added.{Plus}
