@@ -2,6 +2,7 @@
 use Rattle.solver.proofs.zero_counts.+count_class+count_digits.{statement}
 use Rattle.solver.proofs.zero_counts.+count_class+count_digits.Tie.{close}
 mod Calls
+mod Once
 mod Class
 mod Digits
 use Calls.{μ-class, μ-digits}
