@@ -13,7 +13,8 @@ abbrev pub Plus : (ℕ → ℕ) → ℕ → List ℕ → List ℕ → Type 0
 Plus A e l₀ l = Overwritten (λ i. getD l₀ i 0 + A i) 0 e l₀ l
 
 -- one number after another
-pub plus-both : (A B C : ℕ → ℕ) {e : ℕ} {l₀ l l′ : List ℕ} → Plus A e l₀ l → Plus B e l l′ → ((i : ℕ) → i < e → C i ≡ A i + B i) → Plus C e l₀ l′
+pub plus-both : (A B C : ℕ → ℕ) {e : ℕ} {l₀ l l′ : List ℕ} → Plus A e l₀ l → Plus B e l l′
+    → ((i : ℕ) → i < e → C i ≡ A i + B i) → Plus C e l₀ l′
 plus-both A B C a b c =
     record {
       long = b .long ∙ a .long;

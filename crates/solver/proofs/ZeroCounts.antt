@@ -1,5 +1,5 @@
--- The numbers of zeros modulo every power of p at a node: of a polynomial that is settled at once, of the quotient by a power of p, and digit
--- by digit.
+-- The numbers of zeros modulo every power of p at a node: of a polynomial that is settled at once, of the quotient by a power of p, and
+-- digit by digit.
 use mathlib.Core.Path.{_≡_, refl, sym, ap, ap₂, _∙_, fun-ext}
 use mathlib.Core.Bool.{Bool, true, false}
 use mathlib.Core.List.{List, []}
@@ -139,7 +139,8 @@ module _ (h : List ℕ) (p l : ℕ) where
 
     most : (k : ℕ) → so-far (take (i + 1) digits) k ≤ zerosAt h (M .p) (x .left) k
     most k =
-        let taken : take (i + 1) digits ≡ take (i + 1) (zeroDigits p h) = sym (take-take (i + 1) number digits (omega arith)) ∙ ap (take (i + 1)) all in
+        let taken : take (i + 1) digits ≡ take (i + 1) (zeroDigits p h) =
+        sym (take-take (i + 1) number digits (omega arith)) ∙ ap (take (i + 1)) all in
         omega (
           arith,
           ap (λ (d : List ℕ). so-far d k) taken,

@@ -126,8 +126,8 @@ pub enum Tabulated {
     Refused(Refusal),
 }
 
-// The number of solutions at every precision (02, 2.1): N_0, …, N_n go into the first n + 1 slots, where N_j is the number of residues below
-// p^j at which p^j divides the polynomial; later slots keep their content. Rules 2, 3, 4, 14, 5 and 11; a refusal alters nothing.
+// The number of solutions at every precision (02, 2.1): N_0, …, N_n go into the first n + 1 slots, where N_j is the number of residues
+// below p^j at which p^j divides the polynomial; later slots keep their content. Rules 2, 3, 4, 14, 5 and 11; a refusal alters nothing.
 pub fn counts(coefficients: &[i64], p: u32, n: u32, counts: &mut [u64]) -> Tabulated
     ensures answer { λ r. ⌜ r ≡ tabulatedOf (now (coefficients .entry)) p n (length (now (counts .entry))) ⌝ }
     ensures counts { λ _. ⌜ now (counts .exit) ≡ countsAfter (now (coefficients .entry)) p n (now (counts .entry)) ⌝ }

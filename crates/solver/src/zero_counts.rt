@@ -1,5 +1,6 @@
-// The number of zeros modulo every power of p, by one walk of the tree of digits. A row of e counts belongs to a polynomial modulo p^e: entry i
-// is for p^(i + 1). The numbers counted are those below pⁿ, whatever the power, so that a class adds the same to each entry that it adds to.
+// The number of zeros modulo every power of p, by one walk of the tree of digits. A row of e counts belongs to a polynomial modulo p^e:
+// entry i is for p^(i + 1). The numbers counted are those below pⁿ, whatever the power, so that a class adds the same to each entry that
+// it adds to.
 ghost use mathlib.Core.Path.{_≡_};
 ghost use Prim.Native.Nat.{ℕ, suc, _≤_, _<_};
 ghost use lib.ListN.{length, take};
@@ -84,11 +85,12 @@ fn write_counts(zeros: &[u64], p: u32, n: u32, m: u64, counts: &mut [u64])
     }
 }
 
-// The number of zeros modulo p^j among the residues below p^j, for each j from 0 to n, of the polynomial whose coefficients are the first c of
-// the row.
+// The number of zeros modulo p^j among the residues below p^j, for each j from 0 to n, of the polynomial whose coefficients are the first
+// c of the row.
 pub(crate) fn count_reduced(row: [u32; 65], c: usize, p: u32, n: u32, m: u64, counts: &mut [u64])
     requires { ⌜ Usable p n m × (c ≤ 65) × Below m (take c row) × (n < length (now counts)) ⌝ }
-    ensures { λ _. ⌜ Overwritten (λ (j : ℕ). countOf (zerosOf (take c row) p j) p j) 0 (suc n) (now (counts .entry)) (now (counts .exit)) ⌝ }
+    ensures { λ _. ⌜ Overwritten (λ (j : ℕ). countOf (zerosOf (take c row) p j) p j) 0 (suc n)
+        (now (counts .entry)) (now (counts .exit)) ⌝ }
 {
     let over = PrimePower {
         p: p as u64,

@@ -11,7 +11,8 @@ use Rattle.theory.specs.Live.{sumOver}
 use Rattle.theory.specs.inner.Tree.{branch}
 use Rattle.theory.proofs.Range.{passing-none, passing-on, passing-off}
 use Rattle.theory.proofs.Passing.{passing-sum, passing-all}
-use Rattle.theory.proofs.Sums.{sumFrom, sum-none, sum-both, sum-from, sum-same, where-passes, passes-on, passes-off, sum-over-passing}
+use Rattle.theory.proofs.Sums.{sumFrom, sum-none, sum-both, sum-from, sum-same, where-passes, passes-on, passes-off}
+use Rattle.theory.proofs.Sums.{sum-over-passing}
 use Rattle.theory.proofs.Sums.{length-sum}
 
 -- how many of k numbers pass, as a sum
@@ -79,7 +80,8 @@ unfolding count
 count-digits S p l test none =
     ap (λ (x : ℕ). length (passing S x 0)) (pow-succ' p l)
     ∙ digits-total S p (p ^ l)
-    ∙ sum-same (λ c. count (branch S p c) p l) (λ c. where-passes (test c) (count (branch S p c) p l)) p 0 (λ c low high. each c (test c) refl)
+    ∙ sum-same (λ c. count (branch S p c) p l) (λ c. where-passes (test c) (count (branch S p c) p l)) p 0
+    (λ c low high. each c (test c) refl)
     ∙ sym (sum-over-passing test (λ c. count (branch S p c) p l) p 0)
   where
     each : (c : ℕ) (b : Bool) → test c ≡ b → count (branch S p c) p l ≡ where-passes (test c) (count (branch S p c) p l)

@@ -27,8 +27,8 @@ use Rattle.theory.proofs.Polynomials.Congruence.{SameModulo, zeros-same
 use Rattle.theory.proofs.Polynomials.Zeros.{zeros-everything, zeros-periodic}
 use Rattle.theory.proofs.Polynomials.Signed.{root-signed}
 
--- "the number of residues below p^j at which f is a multiple of p^j", over the integers: the entries of a list that holds exactly these, each
--- once
+-- "the number of residues below p^j at which f is a multiple of p^j", over the integers: the entries of a list that holds exactly these,
+-- each once
 pub solutions-counted : (f : List ℤ) (p j : ℕ) → 0 < p
     → (l : List ℕ) × (length l ≡ solutions f p j) × NoRepeat l × ((r : ℕ) → In r l ↔ ((r < p ^ j) × Multiple (p ^ j) (valueℤ f r)))
 unfolding solutions count

@@ -88,7 +88,8 @@ returns c =
     let d = c .before .before .before .before in
     let w = d .before .before in
     let v = valued w in
-    let q : w .power .result ≡ M v .p ^ leastValuation (M v .p) (f v) = power-is w ∙ ap (λ (k : ℕ). M v .p ^ k) (v .least-valuation .ensures) in (
+    let q : w .power .result ≡ M v .p ^ leastValuation (M v .p) (f v) =
+    power-is w ∙ ap (λ (k : ℕ). M v .p ^ k) (v .least-valuation .ensures) in (
       d .divide .ensures ∙ ap (λ (k : ℕ). divided k (f v)) q ∙ sym (primitive-is (M v .p) (f v)),
       lowered-is (M v) (v .least-valuation .ensures) q,
     )
@@ -96,4 +97,5 @@ returns c =
 pub make-primitive-spec : {M : Type 1} → statement M
 make-primitive-spec =
     tie.close
-    (tie.spec least-valuation-requires cast-power cast-power-2 power-requires cast-divide divide-requires sub-t12 div-t13 same-length returns)
+    (tie.spec least-valuation-requires cast-power cast-power-2 power-requires cast-divide divide-requires sub-t12 div-t13
+    same-length returns)

@@ -98,7 +98,8 @@ returns c =
     let written = c .before .before in
     let k = written .before .before .before .before in
     let a = call k in
-    written-same (λ j low high. scaled-is (w a) (p a) (n a) (prime-pos (U a .prime)) (row k) (row-at k) j high) (written .write-counts .ensures)
+    written-same (λ j low high. scaled-is (w a) (p a) (n a) (prime-pos (U a .prime)) (row k) (row-at k) j high)
+    (written .write-counts .ensures)
 
 pub count-reduced-spec : {M : Type 1} → statement M
 count-reduced-spec =

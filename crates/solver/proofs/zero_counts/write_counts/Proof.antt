@@ -57,8 +57,8 @@ div-counts : tie.Need-div-counts Inv-loop μ-loop
 div-counts c =
     let t = c .before .before in
     let U = t .before .pre .0 in
-    rw (next-power (t .before .args .p) (t .before .args .n) (t .loop .j) (t .loop .rest) (prime-pos (U .prime)) (c .before .loop-test .taken)
-    (t .loop .inv .1)) (pow-pos _ (prime-pos (U .prime)) _)
+    rw (next-power (t .before .args .p) (t .before .args .n) (t .loop .j) (t .loop .rest) (prime-pos (U .prime))
+    (c .before .loop-test .taken) (t .loop .inv .1)) (pow-pos _ (prime-pos (U .prime)) _)
 
 add-counts : tie.Need-add-counts Inv-loop μ-loop
 add-counts c = search needs

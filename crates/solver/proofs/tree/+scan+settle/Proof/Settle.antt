@@ -188,7 +188,9 @@ module _ (t : ℕ) where
       )
 
   slice-aggregate-scan : lts.Need-slice-aggregate-scan calls at reads.Post
-  slice-aggregate-scan c = let w = c .before .before in sym (ap length (h-is w) ∙ sym (ap length (w .make-primitive .ensures .0)) ∙ part-long w)
+  slice-aggregate-scan c =
+      let w = c .before .before in
+      sym (ap length (h-is w) ∙ sym (ap length (w .make-primitive .ensures .0)) ∙ part-long w)
 
   scan-requires : lts.Need-scan-requires calls at reads.Post
   scan-requires c κs =

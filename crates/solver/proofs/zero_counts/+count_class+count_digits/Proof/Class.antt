@@ -19,8 +19,13 @@ use Rattle.solver.proofs.zero_counts.count_class.Reads as reads
 use Rattle.solver.proofs.zero_counts.count_class.Kinds as kinds
 use Rattle.solver.proofs.zero_counts.+count_class+count_digits.Lts-count_class as lts
 use Rattle.solver.proofs.zero_counts.+count_class+count_digits.Proof.Calls.{class-at, class-calls}
-use Rattle.solver.proofs.zero_counts.+count_class+count_digits.Proof.Once.{f, M, x, N, l₀, room, long, call, members, members-are, powered, some-left}
-use Rattle.solver.proofs.zero_counts.+count_class+count_digits.Proof.Once.{cast-power, cast-power-2, power-requires, array-share-prefix-g, slice-aggregate-all-zero, all-zero-requires, add-requires, same-length, returns, array-read-lower, cast-lower, lower-requires, add-requires-2, same-length-2, returns-2}
+use Rattle.solver.proofs.zero_counts.+count_class+count_digits.Proof.Once.{f, M, x, N, l₀, room, long, call, members, members-are}
+use Rattle.solver.proofs.zero_counts.+count_class+count_digits.Proof.Once.{powered, some-left}
+use Rattle.solver.proofs.zero_counts.+count_class+count_digits.Proof.Once.{cast-power, cast-power-2, power-requires}
+use Rattle.solver.proofs.zero_counts.+count_class+count_digits.Proof.Once.{array-share-prefix-g, slice-aggregate-all-zero}
+use Rattle.solver.proofs.zero_counts.+count_class+count_digits.Proof.Once.{all-zero-requires, add-requires, same-length, returns}
+use Rattle.solver.proofs.zero_counts.+count_class+count_digits.Proof.Once.{array-read-lower, cast-lower, lower-requires}
+use Rattle.solver.proofs.zero_counts.+count_class+count_digits.Proof.Once.{add-requires-2, same-length-2, returns-2}
 
 module _ (t : ℕ) where
   abbrev calls : lts.Claims
@@ -80,7 +85,8 @@ module _ (t : ℕ) where
     divided-is = quotient (N t deep-call) (some-left t (deep .before .before)) (omega (arith, deep .if2 .left))
 
     -- one power of p for another
-    one-power : (i : ℕ) → zerosAt (f t deep-call) (M t deep-call .p) (x t deep-call .left) (s + i) ≡ zerosAt h (rest .p) (x t deep-call .left) i
+    one-power : (i : ℕ) → zerosAt (f t deep-call) (M t deep-call .p) (x t deep-call .left) (s + i)
+        ≡ zerosAt h (rest .p) (x t deep-call .left) i
     one-power i =
         ap (λ (k : ℕ). zerosAt (f t deep-call) (M t deep-call .p) (x t deep-call .left) (k + i)) s-is
         ∙ zeros-quotient divided-is (x t deep-call .left) i
@@ -133,7 +139,9 @@ module _ (t : ℕ) where
       )
 
   slice-aggregate-count-digits : lts.Need-slice-aggregate-count-digits calls at reads.Post
-  slice-aggregate-count-digits c = let m = primitive-made (c .before) in sym (ap length (h-is m) ∙ sym (ap length (m .make-primitive .ensures .0)) ∙ part-length m)
+  slice-aggregate-count-digits c =
+      let m = primitive-made (c .before) in
+      sym (ap length (h-is m) ∙ sym (ap length (m .make-primitive .ensures .0)) ∙ part-length m)
 
   mul-count-digits : lts.Need-mul-count-digits calls at reads.Post
   mul-count-digits c = let m = primitive-made (c .before) in omega (arith, exponent-few m)
@@ -157,11 +165,14 @@ module _ (t : ℕ) where
       let B = zerosAt (h m) (rest m .p) (x t a .left) in (
         omega (arith, a .pre .0),
         (
-          subst₂ (λ (g : List ℕ) (R : PrimePower). Primitive g R (x t a)) (sym (h-is m)) (sym (m .make-primitive .ensures .1)) (d .primitive-at),
+          subst₂ (λ (g : List ℕ) (R : PrimePower). Primitive g R (x t a)) (sym (h-is m)) (sym (m .make-primitive .ensures .1))
+              (d .primitive-at),
           record {
-            long = part-long A B (members t (deep-powered m)) (s m) (M t a .exponent) (rest m .exponent) (room t a .long) (omega arith) (rest-is m)
+            long = part-long A B (members t (deep-powered m)) (s m) (M t a .exponent) (rest m .exponent) (room t a .long) (omega arith)
+                (rest-is m)
                 (added .add3 .ensures) (one-power m);
-            fits = part-fits A B (members t (deep-powered m)) (s m) (M t a .exponent) (rest m .exponent) (room t a .long) (omega arith) (rest-is m)
+            fits = part-fits A B (members t (deep-powered m)) (s m) (M t a .exponent) (rest m .exponent) (room t a .long) (omega arith)
+                (rest-is m)
                 (added .add3 .ensures) (one-power m) (room t a .fits);
           },
         ),
@@ -176,14 +187,17 @@ module _ (t : ℕ) where
       let added = counted .before .before .before .before .before in
       let m = primitive-made (counted .before .before .before) in
       let a = deep-call m in
-      plus-parts (zerosAt (f t a) (M t a .p) (x t a .left)) (zerosAt (h m) (rest m .p) (x t a .left)) (members t (deep-powered m)) (s m) (M t a .exponent)
+      plus-parts (zerosAt (f t a) (M t a .p) (x t a .left)) (zerosAt (h m) (rest m .p) (x t a .left)) (members t (deep-powered m)) (s m)
+      (M t a .exponent)
       (rest m .exponent) (room t a .long) (omega arith) (rest-is m) (added .add3 .ensures) (one-power m) (counted .count-digits .ensures)
       (content m)
 
   pub class-closed : {M : Type 1} → lts.Closed calls at reads.Post M
   class-closed =
-      lts.spec calls at reads.Post (cast-power t) (cast-power-2 t) (power-requires t) (array-share-prefix-g t) (slice-aggregate-all-zero t) (all-zero-requires t)
-      (add-requires t) (same-length t) (returns t) (array-read-lower t) (cast-lower t) (lower-requires t) (add-requires-2 t) (same-length-2 t) (returns-2 t)
+      lts.spec calls at reads.Post (cast-power t) (cast-power-2 t) (power-requires t) (array-share-prefix-g t)
+      (slice-aggregate-all-zero t) (all-zero-requires t)
+      (add-requires t) (same-length t) (returns t) (array-read-lower t) (cast-lower t) (lower-requires t) (add-requires-2 t)
+      (same-length-2 t) (returns-2 t)
       array-borrow-prefix-g slice-aggregate-make-primitive make-primitive-requires sub-s add-requires-3 array-share-prefix-g-2
       slice-aggregate-count-digits mul-count-digits sub-count-digits part-count-digits-start part-count-digits-end count-digits-requires
       same-length-3 returns-3

@@ -212,7 +212,8 @@ module _ (t : ℕ) where
       let s = d .before .before in
       let l = here s in (
         omega (arith, turn s .loop-test .taken),
-        digits-next (h l) (M l .p) (x l .left - 1) (digits l) refl (deep l) (number l) (l .loop .i) (turn s .loop-test .taken) (number-fits l)
+        digits-next (h l) (M l .p) (x l .left - 1) (digits l) refl (deep l) (number l) (l .loop .i) (turn s .loop-test .taken)
+            (number-fits l)
             (found l .zero-digits .ensures .1) (room l) (l .loop .inv .1) (g s) (below-is s)
             (subst₂ (λ (q : List ℕ) (y : Node). Added q (M l) y (l .loop .counts) (counted .count-class .last .1 .1 .1 .1 .0)) (table s)
             (d .child .ensures) (counted .count-class .ensures)),

@@ -143,7 +143,8 @@ module _ (t : ℕ) where
     last-most : c .lower .result ≤ M last-call .exponent
     last-most = omega (arith, v-is, lower-most (f last-call) (M last-call .p) two (M last-call .exponent))
 
-    none-below : (i k : ℕ) → zerosAt (f last-call) (M last-call .p) 0 i ≡ k → zerosAt (f last-call) (M last-call .p) (x last-call .left) i ≡ k
+    none-below : (i k : ℕ) → zerosAt (f last-call) (M last-call .p) 0 i ≡ k
+        → zerosAt (f last-call) (M last-call .p) (x last-call .left) i ≡ k
     none-below i k e = ap (λ (n : ℕ). zerosAt (f last-call) (M last-call .p) n i) (last .if2 .taken) ∙ e
 
     last-added : (i : ℕ) → i < c .lower .result → zerosAt (f last-call) (M last-call .p) (x last-call .left) i ≡ members last-powered
