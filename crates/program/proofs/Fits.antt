@@ -17,8 +17,8 @@ use Rattle.writer.specs.declared.Written.{Written}
 use Rattle.writer.specs.declared.Written.the-variants as written
 use Rattle.writer.specs.Output.{outputText}
 use Rattle.writer.specs.Written.{bytesOr}
+use Rattle.writer.proofs.Line.{refusal-length}
 use Rattle.program.specs.Printed.{blockOr, judged, solvedText, printedText, bufferVerdict, writtenIn}
-use Rattle.program.proofs.Lengths.{refusal-length}
 use Rattle.program.proofs.Solved.{block-short}
 use Rattle.program.proofs.Read.{given-row, given-text, refused-text}
 

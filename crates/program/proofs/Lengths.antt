@@ -1,18 +1,14 @@
--- How many bytes the program prints.
+-- How many bytes the block of a list of classes has.
 use mathlib.Core.Path.{_≡_, sym, ap, _∙_}
-use mathlib.Core.List.{List, [], _∷_, _++_}
+use mathlib.Core.List.{List}
 use Prim.Native.Nat.{ℕ, _+_, _*_}
 use native.Mathlib.Omega.{arith}
 use lib.IntN.{pos}
 use lib.ListN.{length, length-append, length-map}
 use Rattle.theory.specs.ClassList.{memberTotal}
 use Rattle.theory.specs.SignedClass.{SignedClass, residuesOf, levelsOf}
-use Rattle.refusal.specs.declared.Refusal.{Refusal}
-use Rattle.refusal.specs.Number.{numberOf, placeOf}
-use Rattle.columns.specs.Column.{column, lineEnd}
 use Rattle.classes.proofs.Entries.{classes-of-parts}
-use Rattle.writer.specs.Output.{line, classLines, outputText, refusalLine}
-use Rattle.columns.proofs.Length.{column-length}
+use Rattle.writer.specs.Output.{line, classLines, outputText}
 use Rattle.writer.proofs.Line.{line-length}
 use Rattle.writer.proofs.ClassLines.{lines-length}
 
@@ -30,12 +26,3 @@ output-length p n L marks e =
     ∙ lines-length p n residues levels marks (nl ∙ sym nr) (e ∙ sym nr) in
     length-append (line (pos p) n (length L) (memberTotal p n levels)) (classLines p n L marks)
     ∙ omega (arith, line-length (pos p) n (length L) (memberTotal p n levels), parts, nr)
-
--- two columns of 11 bytes and the line's end
-pub refusal-length : (r : Refusal) → length (refusalLine r) ≡ 23
-unfolding refusalLine
-refusal-length r =
-    let a = column 11 (numberOf r) in
-    let b = column 11 (placeOf r) in
-    length-append (a ++ b) (lineEnd ∷ [])
-    ∙ omega (arith, length-append a b, column-length 11 (numberOf r), column-length 11 (placeOf r))

@@ -7,6 +7,5 @@ pub mod Read
 pub mod Fits
 pub mod Columns
 pub mod Examples
-pub mod Prefix
 pub mod Enough
 pub mod Input

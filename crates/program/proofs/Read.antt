@@ -1,39 +1,20 @@
 -- A problem that is read: its first coefficients, and the answer to it.
 use mathlib.Core.Path.{_≡_, sym, ap, _∙_}
-use mathlib.Core.List.{List, [], _∷_, _++_}
-use Prim.Native.Nat.{ℕ, _-_, _≤_, _<_}
-use native.Mathlib.Omega.{arith}
-use lib.IntN.{pos}
-use lib.ListN.{length, length-append, take, replicate}
+use mathlib.Core.List.{List, [], _∷_}
+use Prim.Native.Nat.{ℕ, _≤_, _<_}
+use lib.ListN.{length, take}
 use lib.Seq.{length-take-le}
 use Rattle.refusal.specs.declared.Refusal.{Refusal}
-use Rattle.refusal.specs.Rules.{Verdict, passes, refuses, tried, filled}
+use Rattle.refusal.specs.Rules.{tried, filled}
 use Rattle.text.specs.declared.Read.{Read}
 use Rattle.text.specs.declared.Read.the-variants.{Given, Refused}
 use Rattle.text.specs.declared.Problem.{Problem}
-use Rattle.text.specs.Form.{pOf, nOf, countOf, endAt, coefficientsAt, endsText, verdictAt, problemBy, problemOf}
-use Rattle.text.proofs.Rows.{coefficients-length}
+use Rattle.text.specs.Form.{endAt, endsText, verdictAt, problemOf}
 use Rattle.text.proofs.Accepted.{given-is-input}
+use Rattle.text.proofs.Front.{row-long}
 use Rattle.writer.specs.declared.Written.{Written}
 use Rattle.writer.specs.Output.{refusalLine}
 use Rattle.program.specs.Printed.{printedFor, solvedText, printedText, bufferVerdict, writtenIn}
-
--- a row holds the coefficients that were read
-row-long : (P : Problem) (text : List ℕ) (p n count end : ℕ) (v : Verdict) → P ≡ problemBy v text 0 → P .read ≡ Given p n count end
-    → count ≤ length (P .coefficients)
-unfolding problemBy
-row-long P text p n count end passes is given =
-    let f : Given (pOf text 0) (nOf text 0) (countOf text 0) (endAt text 0) ≡ Given p n count end =
-    ap (λ (Q : Problem). Q .read) (sym is) ∙ given in
-    let same : countOf text 0 ≡ count = cc in
-    let cs = coefficientsAt text 34 (countOf text 0) in
-    let rest = replicate (65 - length cs) (pos 0) in
-    let long : length (P .coefficients) ≡ length (cs ++ rest) = ap (λ (Q : Problem). length (Q .coefficients)) is in
-    omega (arith, long, length-append cs rest, coefficients-length text 34 (countOf text 0), same)
-row-long P text p n count end (refuses r) is given =
-    let f : P .read ≡ Refused r = ap (λ (Q : Problem). Q .read) is in
-    let z : _≡_ {A = ℕ} 0 1 = cc in
-    absurd (omega arith)
 
 -- P is what the text reads as
 module _ (text : List ℕ) (P : Problem) (is : P ≡ problemOf text) where

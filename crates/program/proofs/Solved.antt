@@ -18,9 +18,10 @@ use Rattle.classes.proofs.Entries.{classes-of-parts}
 use Rattle.writer.specs.declared.Written.{Written}
 use Rattle.writer.specs.Output.{outputText, refusalLine}
 use Rattle.writer.specs.Written.{bytesOr, writerVerdict, writtenOf, refusalVerdict, refusalWrittenOf}
+use Rattle.writer.proofs.Line.{refusal-length}
 use Rattle.program.specs.Printed.{blockOr, judged, solvedText, bufferVerdict, writtenIn}
 use Rattle.program.proofs.Few.{Slots64, verdict-judged, solution-few}
-use Rattle.program.proofs.Lengths.{output-length, refusal-length}
+use Rattle.program.proofs.Lengths.{output-length}
 use Rattle.program.proofs.Accepted.{writer-12, residues-length, marks-length}
 
 -- The line of a refusal

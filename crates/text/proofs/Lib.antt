@@ -12,4 +12,7 @@ pub mod Input
 pub mod Accepted
 pub mod Longest
 pub mod Places
+pub mod Prefix
+pub mod Enough
+pub mod Front
 pub mod Examples

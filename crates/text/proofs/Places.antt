@@ -17,7 +17,7 @@ use Rattle.refusal.proofs.Places.{PlaceAtMost, PlacesAtMost, rule-place, tried-
 use Rattle.text.specs.declared.Read.the-variants.{Refused}
 use Rattle.text.specs.Text.{unsignedValue, signedValue}
 use Rattle.text.specs.Form.{hasValue, endsLine, endsText, firstLineRules, countOf, coefficientRules, verdictAt, endAt}
-use Rattle.text.specs.Form.{problemBy, problemOf}
+use Rattle.text.specs.Form.{problemBy, problemAt, problemOf}
 
 value-place : {A : Type 0} (b : ℕ) (o : Option A) (place : ℕ) → place ≤ b → PlaceAtMost b (hasValue o place)
 value-place b (some x) place h = tt
@@ -78,10 +78,17 @@ module _ (text : List ℕ) where
       let h : end ≤ 1399 = omega (arith, verdict-few (tried-first (verdictAt text 0) [] e .0)) in
       tried-places 1399 (endsText text end ∷ []) (rule-place 1399 (ltb end (length text)) (Form end) h, tt))
 
+  refused-place : (v : Verdict) → PlaceAtMost 1399 v → (r : Refusal) → problemBy v text 0 .read ≡ Refused r → placeOf r ≤ 1399
+  unfolding problemBy
+  refused-place passes h r e = let z : _≡_ {A = ℕ} 0 1 = cc e in absurd (omega arith)
+  refused-place (refuses s) h r e = let same : s ≡ r = cc e in rw (sym same) h
+
+  -- of the problem at the front of a text
+  pub front-place : (r : Refusal) → problemAt text 0 .read ≡ Refused r → placeOf r ≤ 1399
+  unfolding problemAt
+  front-place r e = refused-place (verdictAt text 0) verdict-place r e
+
+  -- of the problem that is the whole text
   pub text-place : (r : Refusal) → problemOf text .read ≡ Refused r → placeOf r ≤ 1399
-  unfolding problemOf problemBy
-  text-place r e = go (tried (verdictAt text 0 ∷ endsText text (endAt text 0) ∷ [])) whole-place e
-    where
-      go : (v : Verdict) → PlaceAtMost 1399 v → problemBy v text 0 .read ≡ Refused r → placeOf r ≤ 1399
-      go passes h e = let z : _≡_ {A = ℕ} 0 1 = cc e in absurd (omega arith)
-      go (refuses s) h e = let same : s ≡ r = cc e in rw (sym same) h
+  unfolding problemOf
+  text-place r e = refused-place (tried (verdictAt text 0 ∷ endsText text (endAt text 0) ∷ [])) whole-place r e

@@ -7,11 +7,15 @@ use lib.ListN.{replicate}
 use Rattle.theory.specs.SignedClass.{signedClass}
 use Rattle.refusal.specs.declared.Refusal.the-variants.{TooFewSlots}
 use Rattle.columns.specs.Column.{signedColumn}
-use Rattle.writer.specs.Output.{outputText, refusalLine}
+use Rattle.writer.specs.Output.{outputText, refusalLine, rowLine}
 
 -- a byte behind ten blanks
 abbrev single : ℕ → List ℕ
 single byte = replicate 10 32 ++ byte ∷ []
+
+-- and behind nineteen
+abbrev wide : ℕ → List ℕ
+wide byte = replicate 19 32 ++ byte ∷ []
 
 -- '1' is byte 49, '-' byte 45
 pub printed-block : outputText 2 4 (signedClass (negsuc 0) 3 ∷ signedClass (pos 1) 3 ∷ []) (0 ∷ 0 ∷ [])
@@ -30,3 +34,9 @@ least-residue = refl
 pub printed-refusal : refusalLine (TooFewSlots 2) ≡ replicate 9 32 ++ 49 ∷ 49 ∷ [] ++ single 50 ++ 10 ∷ []
 unfolding refusalLine
 printed-refusal = refl
+
+-- the row of x² − 1 modulo 16: 1, 1, 2, 4, 4
+pub printed-row : rowLine (1 ∷ 1 ∷ 2 ∷ 4 ∷ 4 ∷ [])
+    ≡ wide 49 ++ wide 49 ++ wide 50 ++ wide 52 ++ wide 52 ++ 10 ∷ []
+unfolding rowLine
+printed-row = refl

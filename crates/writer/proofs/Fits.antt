@@ -6,7 +6,7 @@ use Prim.Native.Nat.{ℕ, _-_, _^_, _≤_, _<_}
 use native.Mathlib.Nat.{pow-le-pow-right}
 use native.Mathlib.Omega.{arith}
 use lib.IntN.{ℤ, pos, negsuc}
-use lib.ListN.{length}
+use lib.ListN.{length, getD}
 use Rattle.theory.specs.Class.{memberCount}
 use Rattle.theory.specs.Centered.{isCentered}
 use Rattle.theory.specs.SignedClass.{SignedClass, IsSignedClass, natural, signedSlot}
@@ -27,7 +27,7 @@ use Rattle.classes.specs.inner.Usable.{UsableMarked}
 use Rattle.classes.proofs.Entries.{classes-same-length}
 use Rattle.classes.proofs.Faults.{faultless-few, faultless-most}
 use Rattle.classes.proofs.MarkedChecks.{marked-accepted}
-use Rattle.writer.specs.Fits.{Fits, OutputFits, RefusalFits}
+use Rattle.writer.specs.Fits.{Fits, OutputFits, RefusalFits, RowFits}
 use Rattle.writer.specs.Written.{writerVerdict}
 
 -- numbers of 32 bits
@@ -43,6 +43,10 @@ residue-fits q (negsuc k) h e = omega (arith, in-range q (negsuc k) e .above)
 -- the line of a refusal whose place has 32 bits
 pub refusal-fits : (r : Refusal) → placeOf r ≤ 4294967295 → RefusalFits r
 refusal-fits r h = record { number = small-fits (numberOf r) (omega (arith, number-at-most r)); place = small-fits (placeOf r) h }
+
+-- a row of numbers of 64 bits
+pub row-fits : (row : List ℕ) → ((i : ℕ) → i < length row → getD row i 0 ≤ 18446744073709551615) → RowFits row
+row-fits row small i h = (omega arith, omega (arith, small i h))
 
 module _ (p n : ℕ) (residues : List ℤ) (levels marks : List ℕ) where
   abbrev L : List SignedClass

@@ -5,6 +5,7 @@ pub mod Line
 pub mod Answers
 pub mod ClassLines
 pub mod Listing
+pub mod RowLine
 pub mod Checked
 pub mod Fits
 pub mod Examples

@@ -82,3 +82,11 @@ refusal-laid r l l₁ l₂ h p₁ p₂ =
     let n : length e ≡ 11 = column-length 11 (numberOf r) in
     let q : l₂ ≡ laid 0 (e ++ f) l = next-column 0 11 e l l₁ n p₁ l₂ f (omega arith) p₂ in
     next-end 0 22 (e ++ f) l l₂ (more e f 11 n (column-length 11 (placeOf r))) q (omega arith) ∙ laid-zero (refusalLine r) l
+
+pub refusal-length : (r : Refusal) → length (refusalLine r) ≡ 23
+unfolding refusalLine
+refusal-length r =
+    let e = column 11 (numberOf r) in
+    let f = column 11 (placeOf r) in
+    let n = more e f 11 (column-length 11 (numberOf r)) (column-length 11 (placeOf r)) in
+    length-append (e ++ f) (lineEnd ∷ []) ∙ ap (λ (y : ℕ). y + 1) n

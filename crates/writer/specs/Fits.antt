@@ -29,3 +29,7 @@ pub record OutputFits (p n : ℕ) (L : List SignedClass) (marks : List ℕ) : Ty
 pub record RefusalFits (r : Refusal) : Type 0 where
   pub number : Fits (pos (numberOf r))
   pub place : Fits (pos (placeOf r))
+
+-- the numbers of `rowLine`: "Columns are 20 wide"
+abbrev pub RowFits : List ℕ → Type 0
+RowFits row = (i : ℕ) → i < length row → FitsColumn 20 (pos (getD row i 0))

@@ -1,4 +1,4 @@
--- The lines of the output (01, "Lent lists, map and text").
+-- The lines of the output (01, "Lent lists, map and text"; 02, 2.1).
 use mathlib.Core.List.{List, [], _∷_, _++_}
 use Prim.Native.Nat.{ℕ}
 use lib.IntN.{ℤ, pos}
@@ -35,3 +35,9 @@ outputText p n cs marks = line (pos p) n (length cs) (memberTotal p n (levelsOf 
 unfoldable pub refusalLine : Refusal → List ℕ
 unfolding column
 refusalLine r = column 11 (numberOf r) ++ column 11 (placeOf r) ++ lineEnd ∷ []
+
+-- the line of a row of numbers (02, 2.1): "Columns are 20 wide"
+unfoldable pub rowLine : List ℕ → List ℕ
+unfolding column
+rowLine [] = lineEnd ∷ []
+rowLine (x ∷ xs) = column 20 x ++ rowLine xs

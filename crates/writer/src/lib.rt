@@ -1,17 +1,19 @@
-// The text writer: a list of classes, or a refusal, as lines of columns in a lent text.
+// The text writer: a list of classes, a refusal, or a row of numbers, as lines of columns in a lent text.
 ghost use mathlib.Core.Path.{_≡_};
-ghost use Prim.Native.Nat.{_+_, _*_, _^_};
-ghost use lib.ListN.{length};
+ghost use mathlib.Core.List.{_++_};
+ghost use Prim.Native.Nat.{_+_, _*_, _^_, _≤_};
+ghost use lib.ListN.{length, take, drop};
 ghost use Rattle.refusal.specs.Rules.{filled, rule12};
 ghost use Rattle.classes.specs.Rule7.{classesOf};
 ghost use Rattle.classes.specs.inner.Usable.{UsableMarked};
-ghost use Rattle.writer.specs.Output.{outputText, refusalLine};
+ghost use Rattle.writer.specs.Output.{outputText, refusalLine, rowLine};
 ghost use Rattle.writer.specs.Written.{bytesOr, writerVerdict, writtenOf, refusalVerdict, refusalWrittenOf};
 use numbers::Modulus;
 use refusal::Refusal;
 
 mod column;
 mod lines;
+mod row;
 
 pub enum Written {
     // the number of bytes written, which are the first of the text
@@ -81,4 +83,15 @@ pub fn write_refusal(refusal: Refusal, text: &mut [u8]) -> Written
     column::put_column(text, 11, 11, refusal.place() as u64);
     text[22] = b'\n';
     Written::Bytes(23)
+}
+
+// The line of a row's first 32 numbers, in columns of 20; later bytes keep their content. It returns how many bytes it wrote.
+pub fn write_row(row: &[u64], text: &mut [u8; 641]) -> usize
+    ensures answer { λ r. ⌜ r ≡ length (rowLine (take 32 (now (row .entry)))) ⌝ }
+    ensures text { λ _. ⌜ now (text .exit)
+        ≡ rowLine (take 32 (now (row .entry))) ++ drop (length (rowLine (take 32 (now (row .entry))))) (now (text .entry)) ⌝ }
+    ensures counts { λ r. ⌜ (r ≤ length (now (text .exit))) × (r ≡ length (take r (now (text .exit)))) ⌝ }
+{
+    let count = if row.len() < 32 { row.len() } else { 32 };
+    row::put_row(&row[..count], text)
 }
