@@ -1,0 +1,5 @@
+-- What the report is.
+pub mod Report
+pub mod Run
+pub mod Fits
+pub mod inner

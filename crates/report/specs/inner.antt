@@ -1,0 +1,3 @@
+-- The words of the inner functions' contracts.
+pub mod Outcomes
+pub mod Places
