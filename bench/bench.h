@@ -37,6 +37,9 @@ extern const tester flint_points, flint_horner;
 /* Prints the table of tests of many points. Returns whether all testers agree. */
 int print_points(void);
 
+/* Prints the table of counts at every precision. Returns whether they are the solver's. */
+int print_counts(void);
+
 /* The least time of one call, over batches of calls that fill half a second. */
 double time_of(int (*call)(void));
 

@@ -39,6 +39,9 @@ extern "C" {
    rules about what it does not take. The place is 0 where none is named. */
 enum wimpleclay_number {
     WIMPLECLAY_ACCEPTED = 0,
+    /* The report alone gives this one, and no function here: 1000 problems are done and bytes remain; place: the
+       offset of the first of them. */
+    WIMPLECLAY_TOO_MANY_PROBLEMS = 13,
     /* The text departs from its form, or a number in it from its range; place: offset of the first faulty or
        incomplete column, of a missing line end, or of the first byte past the end. */
     WIMPLECLAY_FORM = 1,
@@ -66,6 +69,9 @@ enum wimpleclay_number {
 
 /* No polynomial has more classes: lists of this many slots are never refused 11. */
 #define WIMPLECLAY_MAX_CLASSES 64
+
+/* No n is above 31: a row of counts with this many slots is never refused 11. */
+#define WIMPLECLAY_MAX_COUNTS 32
 
 /* The bytes of a root map, given p^n. */
 #define WIMPLECLAY_MAP_BYTES(modulus) (((size_t)(modulus) + 7) / 8)
@@ -131,6 +137,17 @@ typedef struct {
    coefficients are reduced once for all points. Rules 2, 3, 4, 14 and 5 refuse the whole call. */
 wimpleclay_points_answer wimpleclay_test_points(const int64_t *coefficients, size_t coefficients_length, uint32_t p,
                                                 uint32_t n, wimpleclay_query *queries, size_t queries_length);
+
+typedef struct {
+    uint32_t number;
+    size_t place;
+} wimpleclay_counts_answer;
+
+/* The number of solutions at every precision. For j from 0 to n, counts[j] becomes the number of residues r from 0 to
+   p^j - 1 at which p^j divides the polynomial's value; counts[0] is 1. Later slots keep their content. For x^2 - 1
+   modulo 2^4 the row is 1, 1, 2, 4, 4. Rules 2, 3, 4, 14, 5 and 11 (place: n + 1). */
+wimpleclay_counts_answer wimpleclay_counts(const int64_t *coefficients, size_t coefficients_length, uint32_t p,
+                                           uint32_t n, uint64_t *counts, size_t counts_length);
 
 /* Stepping through the roots ***************************************************************************************/
 

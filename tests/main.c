@@ -9,8 +9,9 @@ int main(void)
     test_moduli();
     test_solving();
     test_points();
-    test_lists();
     test_counts();
+    test_lists();
+    test_ones();
     test_texts();
     return finish();
 }

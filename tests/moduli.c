@@ -22,10 +22,12 @@ static void test_pair(uint32_t p, uint32_t n)
     refusal r = refused_modulus(p, n);
     loan residues = lend(NULL, SLOTS * sizeof(int32_t)), levels = lend(NULL, SLOTS), marks = lend(NULL, SLOTS - 1);
     loan bytes = lend(NULL, BYTES), queries = lend(NULL, SLOTS * sizeof(wimpleclay_query));
+    loan counts = lend(NULL, SLOTS * sizeof(uint64_t));
     wimpleclay_solve_answer solved = wimpleclay_solve(one, 1, p, n, lent(&residues), SLOTS, lent(&levels), SLOTS,
                                                       lent(&marks), SLOTS - 1);
     wimpleclay_test_answer tested = wimpleclay_is_root(one, 1, p, n, UINT32_MAX);
     wimpleclay_points_answer asked = wimpleclay_test_points(one, 1, p, n, lent(&queries), SLOTS);
+    wimpleclay_counts_answer row = wimpleclay_counts(one, 1, p, n, lent(&counts), SLOTS);
     wimpleclay_next_answer next =
         wimpleclay_next_root(p, n, lent(&residues), SLOTS, lent(&levels), SLOTS, UINT32_MAX);
     wimpleclay_map_answer filled =
@@ -38,6 +40,9 @@ static void test_pair(uint32_t p, uint32_t n)
     judge(r, tested.number, tested.place, "is_root: p and n");
     judge(r, asked.number, asked.place, "test_points: p and n");
     expect(kept_from(&queries, r.number ? 0 : queries.bytes), "test_points: a refusal writes nothing");
+    judge(r, row.number, row.place, "counts: p and n");
+    expect(kept_from(&counts, r.number || n >= SLOTS ? 0 : (n + 1) * sizeof(uint64_t)),
+           "counts: a refusal writes nothing");
     judge(r, next.number, next.place, "next_root: p and n");
     judge(r, filled.number, filled.place, "fill_map: p and n");
     judge(r, counted.number, counted.place, "count_map: p and n");
@@ -49,6 +54,7 @@ static void test_pair(uint32_t p, uint32_t n)
     end_loan(&marks);
     end_loan(&bytes);
     end_loan(&queries);
+    end_loan(&counts);
 }
 
 void test_moduli(void)

@@ -1,6 +1,7 @@
 /* wimpleclay_test_points: rows with known answers, every refusal, drawn rows against trial and wimpleclay_is_root. */
 #include "check.h"
 #include "drawn.h"
+#include "refused.h"
 #include "tests.h"
 
 #include <string.h>
@@ -69,38 +70,6 @@ static void test_empty(void)
 }
 
 /* Refusals ***********************************************************************************************************/
-
-typedef struct {
-    const char *what;
-    size_t count;
-    uint32_t p, n;
-    refusal refused;
-} refused_call;
-
-static const refused_call refused_calls[] = {
-    {"no coefficient", 0, 2, 1, {2, 0}},
-    {"no coefficient, p is 1, n is 0", 0, 1, 0, {2, 0}},
-    {"no coefficient, p is 4", 0, 4, 1, {2, 0}},
-    {"66 coefficients", COEFFICIENTS + 1, 2, 1, {3, 0}},
-    {"66 coefficients, p is 0, n is 0", COEFFICIENTS + 1, 0, 0, {3, 0}},
-    {"66 coefficients, p is 4", COEFFICIENTS + 1, 4, 33, {3, 0}},
-    {"p is 0", 1, 0, 1, {4, 0}},
-    {"p is 1", 1, 1, 1, {4, 0}},
-    {"p is 1, n is 0", 1, 1, 0, {4, 0}},
-    {"p is 65536", 1, 65536, 1, {4, 0}},
-    {"p is 65536, n is 3", COEFFICIENTS, 65536, 3, {4, 0}},
-    {"p is 65537, a prime", 1, 65537, 1, {4, 0}},
-    {"p is 4294967295", 1, UINT32_MAX, 1, {4, 0}},
-    {"p is 4", 1, 4, 1, {14, 2}},
-    {"p is 9, n is 0", 1, 9, 0, {14, 3}},
-    {"p is 64507", COEFFICIENTS, 64507, 1, {14, 251}},
-    {"p is 65535, n is 3", 1, 65535, 3, {14, 3}},
-    {"n is 0", 1, 2, 0, {5, 0}},
-    {"2^32", 1, 2, 32, {5, 0}},
-    {"3^21", COEFFICIENTS, 3, 21, {5, 0}},
-    {"65521^3", 1, 65521, 3, {5, 0}},
-    {"n is 4294967295", 1, 3, UINT32_MAX, {5, 0}},
-};
 
 static void test_refused(const refused_call *c)
 {
@@ -245,7 +214,7 @@ void test_points(void)
     for (size_t i = 0; i < sizeof knowns / sizeof *knowns; i++)
         test_known(&knowns[i]);
     test_empty();
-    for (size_t i = 0; i < sizeof refused_calls / sizeof *refused_calls; i++)
+    for (size_t i = 0; i < REFUSED; i++)
         test_refused(&refused_calls[i]);
     for (size_t i = 0; i < sizeof primes / sizeof *primes; i++)
         for (uint32_t n = 1; power(primes[i], n) <= MOST; n++)

@@ -39,6 +39,14 @@ uint64_t value(const int64_t *f, size_t count, uint64_t x, uint64_t m)
     return v;
 }
 
+uint64_t count_by_trial(const int64_t *f, size_t count, uint64_t m)
+{
+    uint64_t zeros = 0;
+    for (uint64_t r = 0; r < m; r++)
+        zeros += value(f, count, r, m) == 0;
+    return zeros;
+}
+
 /* p^s: the largest power of p below m that divides every coefficient, and m where all reduce to zero. */
 static uint64_t common_power(const int64_t *f, size_t count, uint32_t p, uint64_t m)
 {

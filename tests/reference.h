@@ -46,6 +46,9 @@ refusal refused_modulus(uint32_t p, uint32_t n);
 /* The value of f at x modulo m, where x is below m. */
 uint64_t value(const int64_t *f, size_t count, uint64_t x, uint64_t m);
 
+/* The number of residues below m at which m divides f. */
+uint64_t count_by_trial(const int64_t *f, size_t count, uint64_t m);
+
 /* The root classes of f: the whole classes that lie in no larger whole class, rising by the residue of least size. */
 void solve_by_trial(const int64_t *f, size_t count, uint32_t p, uint32_t n, list *s);
 

@@ -5,8 +5,9 @@
 void test_moduli(void);
 void test_solving(void);
 void test_points(void);
-void test_lists(void);
 void test_counts(void);
+void test_lists(void);
+void test_ones(void);
 void test_texts(void);
 void test_fixed_cases(void);
 void test_rule_7(void);

@@ -14,6 +14,11 @@ to p^n - 1. x^2 - 1 modulo 2^4:
 >>> is_root([-1, 0, 1], 2, 4, 9)
 True
 
+The number of solutions modulo 1, p, p^2, ..., p^n:
+
+>>> counts([-1, 0, 1], 2, 4)
+[1, 1, 2, 4, 4]
+
 Many points are tested in one call. A point that is not below p^n has the answer None:
 
 >>> test_points([-1, 0, 1], 2, 4, [0, 1, 7, 16, 9])
@@ -55,6 +60,7 @@ from ctypes import POINTER, c_int32, c_int64, c_size_t, c_uint8, c_uint32, c_uin
 from typing import NamedTuple
 
 MAX_CLASSES = 64
+MAX_COUNTS = 32
 POINT = 8
 COMPOSITE = 14
 
@@ -128,6 +134,7 @@ _solve = _function(
 )
 _is_root = _function("is_root", [("root", c_uint32)], (*_problem, c_uint32))
 _test_points = _function("test_points", [], (*_problem, *_list(_Query)))
+_counts = _function("counts", [], (*_problem, *_list(c_uint64)))
 _next_root = _function(
     "next_root", [("found", c_uint32), ("root", c_uint32)], (c_uint32, c_uint32, *_residues, *_levels, c_uint32)
 )
@@ -155,6 +162,13 @@ def classes(coefficients, p, n):
 def count(coefficients, p, n):
     """The number of roots."""
     return _solved(coefficients, p, n)[0].roots
+
+
+def counts(coefficients, p, n):
+    """The numbers N_0 to N_n: N_j is the number of residues from 0 to p^j - 1 at which p^j divides the value."""
+    row = (c_uint64 * MAX_COUNTS)()
+    _counts(*_row(coefficients), p, n, row, MAX_COUNTS)
+    return row[: n + 1]
 
 
 def live(coefficients, p, n):

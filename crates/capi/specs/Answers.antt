@@ -7,6 +7,8 @@ use Rattle.solver.specs.declared.Tested.{Tested}
 use Rattle.solver.specs.declared.Tested.the-variants as tested
 use Rattle.solver.specs.declared.TestedAll.{TestedAll}
 use Rattle.solver.specs.declared.TestedAll.the-variants as testedAll
+use Rattle.solver.specs.declared.Tabulated.{Tabulated}
+use Rattle.solver.specs.declared.Tabulated.the-variants as tabulated
 use Rattle.classes.specs.declared.next.Next.{Next}
 use Rattle.classes.specs.declared.next.Next.the-variants as next
 use Rattle.rootmap.specs.declared.Mapped.{Mapped}
@@ -20,6 +22,7 @@ use Rattle.writer.specs.declared.Written.the-variants as written
 use Rattle.capi.specs.declared.solve.SolveAnswer.{SolveAnswer}
 use Rattle.capi.specs.declared.is_root.TestAnswer.{TestAnswer}
 use Rattle.capi.specs.declared.test_points.PointsAnswer.{PointsAnswer}
+use Rattle.capi.specs.declared.counts.CountsAnswer.{CountsAnswer}
 use Rattle.capi.specs.declared.next_root.NextAnswer.{NextAnswer}
 use Rattle.capi.specs.declared.fill_map.MapAnswer.{MapAnswer}
 use Rattle.capi.specs.declared.count_map.CountAnswer.{CountAnswer}
@@ -41,6 +44,11 @@ testAnswer (tested.Refused r) = record { number = numberOf r; place = placeOf r;
 abbrev pub pointsAnswer : TestedAll → PointsAnswer
 pointsAnswer testedAll.Answered = record { number = 0; place = 0 }
 pointsAnswer (testedAll.Refused r) = record { number = numberOf r; place = placeOf r }
+
+-- the row of counts is written, or the call is refused (02, 2.1)
+abbrev pub countsAnswer : Tabulated → CountsAnswer
+countsAnswer tabulated.Filled = record { number = 0; place = 0 }
+countsAnswer (tabulated.Refused r) = record { number = numberOf r; place = placeOf r }
 
 -- "Next returns the least member at or after the point, or none": found is 1, or 0 for none
 abbrev pub nextAnswer : Next → NextAnswer

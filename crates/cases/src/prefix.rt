@@ -27,3 +27,11 @@ pub(crate) fn bytes_mut<'a>(list: &'a mut [u8], k: usize) -> &'a mut [u8] {
         list
     }
 }
+
+pub(crate) fn numbers_mut<'a>(list: &'a mut [u64], k: usize) -> &'a mut [u64] {
+    if k < list.len() {
+        &mut list[0..k]
+    } else {
+        list
+    }
+}

@@ -6,15 +6,15 @@ use crate::prefix;
 use crate::rows::Row;
 use solver::Solved;
 
-// Whether the first k answers are the expected ones, and the later ones 77.
-fn same(answers: [u64; 16], k: usize, expected: Row) -> bool {
+// Whether the first k numbers are the expected ones, and the later ones 77.
+pub(crate) fn same(numbers: [u64; 34], k: usize, expected: Row) -> bool {
     let mut i: usize = 0;
-    while i < 16 {
+    while i < 34 {
         let mut x: u64 = 77;
         if i < k {
             x = expected.item(i);
         }
-        if answers[i] != x {
+        if numbers[i] != x {
             return false;
         }
         i += 1;
@@ -28,7 +28,7 @@ pub(crate) fn steps(f: [i64; 256], c: usize, call: Call, expected: Row) -> Answe
     let mut residues = [77i32; 65];
     let mut levels = [77u8; 65];
     let mut marks = [77u8; 65];
-    let mut answers = [77u64; 16];
+    let mut answers = [77u64; 34];
     match stepping::step_through(
         prefix::coefficients(&f, c),
         call.p,

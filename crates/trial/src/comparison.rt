@@ -2,6 +2,7 @@
 use crate::bound;
 use crate::coefficients::Polynomial;
 use crate::content;
+use crate::counts;
 use crate::library;
 use crate::lifts;
 use crate::listed;
@@ -117,6 +118,7 @@ pub(crate) fn run(polynomial: Polynomial, x: Modulus, mut tally: Tally) -> Tally
         library::next(list, levels, k, x, x.m) == 4294967295,
     );
     tally = points::compare(f, c, x, roots, tally);
+    tally = counts::compare(f, g, c, x, roots, tally);
     tally = residues(polynomial, list, levels, k, x, roots, tally);
     tally = classes(h, c, x, roots, list, levels, marks, k, tally);
     mapped::compare(list, levels, k, x, roots, tally)

@@ -55,6 +55,13 @@ pub(crate) fn solve(f: [i64; 65], c: usize, x: Modulus) -> Solution {
     }
 }
 
+// The row of counts after a call; every slot holds 77 before it.
+pub(crate) fn counts(f: [i64; 65], c: usize, x: Modulus) -> [u64; 10] {
+    let mut row = [77u64; 10];
+    solver::counts(prefix::coefficients(&f, c), x.p, x.n, &mut row);
+    row
+}
+
 // The test: 1 for yes, 0 for no, 2 for a refusal.
 pub(crate) fn test(f: [i64; 65], c: usize, x: Modulus, r: u32) -> u8 {
     match solver::is_root(prefix::coefficients(&f, c), x.p, x.n, r) {

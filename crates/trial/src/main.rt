@@ -1,12 +1,14 @@
 // Small polynomials against plain trial of residues: every answer of the solver, of the test of one and of many points, of next and of the
-// map is compared with what evaluation at each residue gives, and the number of live classes with a count by its definition. The roots
-// above each simple digit are counted, and the class that holds them is looked at. The last line says how many answers differ.
+// map is compared with what evaluation at each residue gives, so are the counts at every precision, and the number of live classes with a
+// count by its definition. The roots above each simple digit are counted, and the class that holds them is looked at. The last line says
+// how many answers differ.
 //
 // A number modulo a bound above its range, as in `c % 66`, is the number: the checker then needs no proof of the range.
 mod bound;
 mod coefficients;
 mod comparison;
 mod content;
+mod counts;
 mod drawn;
 mod factors;
 mod library;
@@ -80,7 +82,7 @@ fn families(x: Modulus, c: u32, mut tally: Tally) -> Tally {
 }
 
 fn main() {
-    let mut tally = Tally { counts: [0; 38] };
+    let mut tally = Tally { counts: [0; 40] };
     let mut i: usize = 0;
     while i < 25 {
         let row = ROWS[i];

@@ -4,7 +4,7 @@ use std::num::wrapping_add_u64;
 
 // The number of comparisons of each kind, and after it the number of differences.
 pub(crate) struct Tally {
-    pub(crate) counts: [u64; 38],
+    pub(crate) counts: [u64; 40],
 }
 
 // The kinds, as places in the table.
@@ -46,13 +46,15 @@ pub(crate) const ONES: usize = 32;
 
 pub(crate) const POINT: usize = 34;
 
-const DIFFERENCES: usize = 36;
+pub(crate) const COUNTS: usize = 36;
+
+const DIFFERENCES: usize = 38;
 
 impl Tally {
     // x more at a place.
     pub(crate) fn add(self, i: usize, x: u64) -> Tally {
         let mut counts = self.counts;
-        if i < 38 {
+        if i < 40 {
             counts[i] = wrapping_add_u64(counts[i], x);
         }
         Tally { counts }
@@ -62,15 +64,15 @@ impl Tally {
     pub(crate) fn compare(self, kind: usize, same: bool) -> Tally {
         let differ = !same as u64;
         self.add(kind, 1)
-            .add(kind % 38 + 1, differ)
+            .add(kind % 40 + 1, differ)
             .add(DIFFERENCES, differ)
     }
 
     // Prints a byte of the form: the number at a place for #. The place after it.
     fn put(self, b: u8, place: usize) -> usize {
         if b == b'#' {
-            io::print_decimal(STDOUT_FILENO, self.counts[place % 38]);
-            return place % 38 + 1;
+            io::print_decimal(STDOUT_FILENO, self.counts[place % 40]);
+            return place % 40 + 1;
         }
         io::write_all(STDOUT_FILENO, &[b]);
         place
@@ -97,6 +99,7 @@ next root: # compared, # differ
 bit of the map: # compared, # differ
 count of the map: # compared, # differ
 one of many points: # compared, # differ
+count at a precision: # compared, # differ
 differences in all: #
 ";
         let mut place: usize = 0;

@@ -1,14 +1,14 @@
--- `cases::steps::same` is safe and ends: the answers left fall.
+-- `cases::steps::same` is safe and ends: the numbers left fall.
 use Prim.Native.Nat.{_-_}
 use borrow.Author.Needs.{needs}
 use Rattle.cases.proofs.steps.same.Statement.{statement}
 use Rattle.cases.proofs.steps.same.Tie as tie
 
 abbrev Inv-loop : tie.InvT-loop
-Inv-loop k expected answers i₀ i = Unit {0}
+Inv-loop k expected numbers i₀ i = Unit {0}
 
 abbrev μ-loop : tie.MeasureT-loop
-μ-loop k expected answers i₀ i = 16 - i
+μ-loop k expected numbers i₀ i = 34 - i
 
 pub same-spec : {M : Type 1} → statement M
 same-spec =
