@@ -1,9 +1,9 @@
 /* The report, fed through a pipe in pieces of many sizes: report-test PROGRAM. The last line counts the checks. */
 #define _POSIX_C_SOURCE 200809L
+#include "feed.h"
+
 #include <poll.h>
 #include <signal.h>
-#include <stdarg.h>
-#include <stdint.h>
 #include <stdio.h>
 #include <stdlib.h>
 #include <string.h>
@@ -12,34 +12,6 @@
 
 static const char *program;
 static unsigned long passed, failed;
-
-/* A text that grows. */
-struct text {
-    char *bytes;
-    size_t length, room;
-};
-
-static void append(struct text *text, const char *bytes, size_t length) {
-    if (text->room < text->length + length + 1) {
-        text->room = 2 * (text->length + length + 1);
-        text->bytes = realloc(text->bytes, text->room);
-        if (!text->bytes)
-            exit(2);
-    }
-    if (length)
-        memcpy(text->bytes + text->length, bytes, length);
-    text->length += length;
-    text->bytes[text->length] = 0;
-}
-
-static void put(struct text *text, const char *format, ...) {
-    char line[1024];
-    va_list arguments;
-    va_start(arguments, format);
-    int length = vsnprintf(line, sizeof line, format, arguments);
-    va_end(arguments);
-    append(text, line, (size_t)length);
-}
 
 /* A problem and its row. */
 struct problem {
@@ -57,22 +29,28 @@ static const struct problem problems[] = {
 };
 enum { kinds = sizeof problems / sizeof *problems };
 
-static void put_head(struct text *text, unsigned p, unsigned n, unsigned count) { put(text, "%11u%11u%11u\n", p, n, count); }
+static void put_head(struct text *text, unsigned p, unsigned n, unsigned count)
+{
+    put(text, "%11u%11u%11u\n", p, n, count);
+}
 
-static void put_problem(struct text *text, const struct problem *problem) {
+static void put_problem(struct text *text, const struct problem *problem)
+{
     put_head(text, problem->p, problem->n, problem->count);
     for (unsigned i = 0; i < problem->count; i++)
         put(text, "%20lld\n", problem->coefficients[i]);
 }
 
-static void put_row(struct text *text, const struct problem *problem) {
+static void put_row(struct text *text, const struct problem *problem)
+{
     for (unsigned j = 0; j <= problem->n; j++)
         put(text, "%20llu", problem->row[j]);
     put(text, "\n");
 }
 
 /* The last line for the first `count` problems, the kinds in turn. */
-static void put_totals(struct text *text, unsigned count) {
+static void put_totals(struct text *text, unsigned count)
+{
     unsigned long long rootless = 0, roots = 0;
     for (unsigned i = 0; i < count; i++) {
         const struct problem *problem = &problems[i % kinds];
@@ -82,70 +60,22 @@ static void put_totals(struct text *text, unsigned count) {
     put(text, "%20u%20llu%20llu\n", count, rootless, roots);
 }
 
-static void put_refusal(struct text *text, unsigned number, size_t place) { put(text, "%11u%11zu\n", number, place); }
+static void put_refusal(struct text *text, unsigned number, size_t place)
+{
+    put(text, "%11u%11zu\n", number, place);
+}
 
 /* The first `count` problems in turn, and their lines. */
-static void put_turn(struct text *input, struct text *lines, unsigned count) {
+static void put_turn(struct text *input, struct text *lines, unsigned count)
+{
     for (unsigned i = 0; i < count; i++) {
         put_problem(input, &problems[i % kinds]);
         put_row(lines, &problems[i % kinds]);
     }
 }
 
-static pid_t start(int *to, int *from) {
-    int in[2], out[2];
-    if (pipe(in) || pipe(out))
-        exit(2);
-    pid_t child = fork();
-    if (child == 0) {
-        dup2(in[0], 0);
-        dup2(out[1], 1);
-        close(in[0]);
-        close(in[1]);
-        close(out[0]);
-        close(out[1]);
-        execl(program, program, (char *)NULL);
-        _exit(127);
-    }
-    close(in[0]);
-    close(out[1]);
-    *to = in[1];
-    *from = out[0];
-    return child;
-}
-
-/* Writes all; a reader that has ended is none of its concern. */
-static void feed(int to, const char *bytes, size_t length, size_t piece) {
-    for (size_t at = 0; at < length;) {
-        size_t size = length - at < piece ? length - at : piece;
-        ssize_t done = write(to, bytes + at, size);
-        if (done <= 0)
-            return;
-        at += (size_t)done;
-    }
-}
-
-/* What the program prints for a text that comes in such pieces. A child writes, so that neither pipe blocks the other. */
-static void run(const struct text *input, size_t piece, struct text *output) {
-    int to, from;
-    pid_t child = start(&to, &from);
-    pid_t writer = fork();
-    if (writer == 0) {
-        close(from);
-        feed(to, input->bytes, input->length, piece);
-        _exit(0);
-    }
-    close(to);
-    char buffer[65536];
-    ssize_t got;
-    while ((got = read(from, buffer, sizeof buffer)) > 0)
-        append(output, buffer, (size_t)got);
-    close(from);
-    waitpid(writer, NULL, 0);
-    waitpid(child, NULL, 0);
-}
-
-static void check(int holds, const char *what, size_t detail) {
+static void check(int holds, const char *what, size_t detail)
+{
     if (holds) {
         passed++;
         return;
@@ -154,18 +84,25 @@ static void check(int holds, const char *what, size_t detail) {
     printf("report: %s, %zu\n", what, detail);
 }
 
-static void expect(const struct text *input, const struct text *wanted, size_t piece, const char *what, size_t detail) {
+static int same(const struct text *a, const struct text *b)
+{
+    return a->length == b->length && memcmp(a->bytes, b->bytes, a->length) == 0;
+}
+
+static void expect(const struct text *input, const struct text *wanted, size_t piece, const char *what, size_t detail)
+{
     struct text output = {0};
     append(&output, "", 0);
-    run(input, piece, &output);
-    check(output.length == wanted->length && memcmp(output.bytes, wanted->bytes, wanted->length) == 0, what, detail);
+    run(program, input, piece, &output);
+    check(same(&output, wanted), what, detail);
     free(output.bytes);
 }
 
 static const size_t pieces[] = {1, 7, 34, 97, 1398, 1399, 1400, 4096, 65535, 65536, 65537, 1 << 20};
 
 /* No problem, one, some, and so many that the buffer is filled more than once. */
-static void test_pieces(void) {
+static void test_pieces(void)
+{
     static const unsigned counts[] = {0, 1, 2, kinds, 40, 1000};
     for (size_t c = 0; c < sizeof counts / sizeof *counts; c++) {
         struct text input = {0}, wanted = {0};
@@ -180,7 +117,8 @@ static void test_pieces(void) {
 }
 
 /* Rule 13: after 1,000 problems any byte is one too many, whatever it is; before rule 1. */
-static void test_too_many(void) {
+static void test_too_many(void)
+{
     static const char *const tails[] = {"x", "\n", " ", "          2          4          3\n"};
     for (size_t t = 0; t <= sizeof tails / sizeof *tails; t++) {
         struct text input = {0}, wanted = {0};
@@ -198,7 +136,8 @@ static void test_too_many(void) {
 }
 
 /* The longest text, 1,399,000 bytes, and one byte more. */
-static void test_longest(void) {
+static void test_longest(void)
+{
     struct text input = {0}, lines = {0};
     for (unsigned i = 0; i < 1000; i++) {
         put_head(&input, 251, 4, 65);
@@ -220,8 +159,9 @@ static void test_longest(void) {
     free(wanted.bytes);
 }
 
-/* Where rule 1 strikes in a problem of `count` coefficients that ends after k bytes: at the first column or line end that is not there. */
-static size_t missing(unsigned count, size_t k) {
+/* Where rule 1 strikes in a problem that ends after k bytes: at the first column or line end that is not there. */
+static size_t missing(unsigned count, size_t k)
+{
     for (size_t at = 0; at < 33; at += 11)
         if (k < at + 11)
             return at;
@@ -237,7 +177,8 @@ static size_t missing(unsigned count, size_t k) {
 }
 
 /* A text that ends at each byte of its second problem. */
-static void test_cuts(void) {
+static void test_cuts(void)
+{
     struct text input = {0}, first = {0};
     put_turn(&input, &first, 1);
     size_t one = input.length;
@@ -269,7 +210,8 @@ static void test_cuts(void) {
 }
 
 /* A refused problem after three ends the report; problems after it are not looked at. */
-static void test_refusals(void) {
+static void test_refusals(void)
+{
     static const struct {
         unsigned p, n, count, number;
         size_t place;
@@ -306,9 +248,10 @@ static void test_refusals(void) {
 }
 
 /* A line comes as soon as the last byte of its problem is there, though the text has not ended. */
-static void test_lines(void) {
+static void test_lines(void)
+{
     int to, from;
-    pid_t child = start(&to, &from);
+    pid_t child = start(program, &to, &from);
     for (unsigned i = 0; i < 2 * kinds; i++) {
         struct text input = {0}, wanted = {0}, output = {0};
         put_problem(&input, &problems[i % kinds]);
@@ -325,7 +268,7 @@ static void test_lines(void) {
                 break;
             append(&output, buffer, (size_t)got);
         }
-        check(output.length == wanted.length && memcmp(output.bytes, wanted.bytes, wanted.length) == 0, "a line when its problem ends", i);
+        check(same(&output, &wanted), "a line when its problem ends", i);
         free(input.bytes);
         free(wanted.bytes);
         free(output.bytes);
@@ -338,14 +281,15 @@ static void test_lines(void) {
     ssize_t got;
     while ((got = read(from, buffer, sizeof buffer)) > 0)
         append(&output, buffer, (size_t)got);
-    check(output.length == wanted.length && memcmp(output.bytes, wanted.bytes, wanted.length) == 0, "the last line at the end", 0);
+    check(same(&output, &wanted), "the last line at the end", 0);
     free(wanted.bytes);
     free(output.bytes);
     close(from);
     waitpid(child, NULL, 0);
 }
 
-int main(int count, char **words) {
+int main(int count, char **words)
+{
     if (count != 2)
         return 2;
     program = words[1];
