@@ -18,10 +18,10 @@ use Rattle.text.specs.declared.Read.{Read}
 use Rattle.text.specs.declared.Read.the-variants.{Given, Refused}
 use Rattle.text.specs.Form.{problemOf}
 use Rattle.text.proofs.Places.{text-place}
-use Rattle.writer.specs.Fits.{OutputFits}
+use Rattle.writer.specs.Fits.{OutputFits, FitsOr}
 use Rattle.writer.proofs.Fits.{usable-fits, refusal-fits}
 use Rattle.program.specs.Printed.{judged}
-use Rattle.program.specs.Fits.{FitsOr, FitsFor, PrintedFits}
+use Rattle.program.specs.Fits.{FitsFor, PrintedFits}
 use Rattle.program.proofs.Accepted.{solution-accepted}
 
 module _ (f : List ℤ) (p n : ℕ) where

@@ -15,10 +15,10 @@ use Rattle.text.specs.declared.Read.the-variants.{Given, Refused}
 use Rattle.text.specs.Form.{problemOf}
 use Rattle.writer.specs.declared.Written.{Written}
 use Rattle.writer.specs.declared.Written.the-variants as written
-use Rattle.writer.specs.Output.{outputText}
+use Rattle.writer.specs.Output.{outputText, textOr}
 use Rattle.writer.specs.Written.{bytesOr}
 use Rattle.writer.proofs.Line.{refusal-length}
-use Rattle.program.specs.Printed.{blockOr, judged, solvedText, printedText, bufferVerdict, writtenIn}
+use Rattle.program.specs.Printed.{judged, solvedText, printedText, bufferVerdict, writtenIn}
 use Rattle.program.proofs.Solved.{block-short}
 use Rattle.program.proofs.Read.{given-row, given-text, refused-text}
 
@@ -29,7 +29,7 @@ solved-fits f p n some few = go (judged p n) refl
     go : (v : Verdict) → judged p n ≡ v → length (solvedText f p n) ≤ 2925
     go passes e = block-short f p n some few e
     go (refuses r) e =
-        let line = ap (λ (v : Verdict). length (blockOr v (outputText p n (solution f p n) (marksOf f p n)))) e in
+        let line = ap (λ (v : Verdict). length (textOr v (outputText p n (solution f p n) (marksOf f p n)))) e in
         omega (arith, line, refusal-length r)
 
 pub printed-fits : (text : List ℕ) → length (printedText text) ≤ 2925

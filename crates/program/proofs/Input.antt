@@ -12,8 +12,8 @@ use Rattle.solver.specs.Solve.{solution, marksOf}
 use Rattle.text.specs.declared.Problem.{Problem}
 use Rattle.text.specs.Input.{inputText}
 use Rattle.text.proofs.Input.{Readable, input-is-read}
-use Rattle.writer.specs.Output.{outputText}
-use Rattle.program.specs.Printed.{blockOr, judged, solvedText, printedFor, printedText}
+use Rattle.writer.specs.Output.{outputText, textOr}
+use Rattle.program.specs.Printed.{judged, solvedText, printedFor, printedText}
 
 -- of a problem that can be read: its classes, or the solver's refusal
 pub printed-of-input : (p n : ℕ) (f : List ℤ) → Readable p n f → printedText (inputText p n f) ≡ solvedText f p n
@@ -28,4 +28,4 @@ pub printed-of-usable : (p n m : ℕ) (f : List ℤ) → Readable p n f → Usab
 unfolding solvedText judged
 printed-of-usable p n m f R U =
     printed-of-input p n f R
-    ∙ ap (λ (v : Verdict). blockOr v (outputText p n (solution f p n) (marksOf f p n))) (usable-leads U [])
+    ∙ ap (λ (v : Verdict). textOr v (outputText p n (solution f p n) (marksOf f p n))) (usable-leads U [])

@@ -16,10 +16,10 @@ use Rattle.solver.proofs.Answered.{refused-verdict, found-passes}
 use Rattle.classes.specs.Rule7.{classesOf}
 use Rattle.classes.proofs.Entries.{classes-of-parts}
 use Rattle.writer.specs.declared.Written.{Written}
-use Rattle.writer.specs.Output.{outputText, refusalLine}
+use Rattle.writer.specs.Output.{outputText, refusalLine, textOr}
 use Rattle.writer.specs.Written.{bytesOr, writerVerdict, writtenOf, refusalVerdict, refusalWrittenOf}
 use Rattle.writer.proofs.Line.{refusal-length}
-use Rattle.program.specs.Printed.{blockOr, judged, solvedText, bufferVerdict, writtenIn}
+use Rattle.program.specs.Printed.{judged, solvedText, bufferVerdict, writtenIn}
 use Rattle.program.proofs.Few.{Slots64, verdict-judged, solution-few}
 use Rattle.program.proofs.Lengths.{output-length}
 use Rattle.program.proofs.Accepted.{writer-12, residues-length, marks-length}
@@ -54,7 +54,7 @@ module _ (f : List ℤ) (p n : ℕ) (some : 0 < length f) (few : length f ≤ 65
     pub refused : (r : Refusal) → solvedOf f p n given ≡ Refused r → solvedText f p n ≡ refusalLine r
     unfolding solvedText
     refused r e =
-        ap (λ (v : Verdict). blockOr v (outputText p n (solution f p n) (marksOf f p n)))
+        ap (λ (v : Verdict). textOr v (outputText p n (solution f p n) (marksOf f p n)))
         (sym (verdict-judged f p n some few given slots) ∙ refused-verdict f p n given r e)
 
   -- where p and n are accepted
@@ -71,7 +71,7 @@ module _ (f : List ℤ) (p n : ℕ) (some : 0 < length f) (few : length f ≤ 65
 
     text-is : solvedText f p n ≡ block
     unfolding solvedText
-    text-is = ap (λ (v : Verdict). blockOr v block) passed
+    text-is = ap (λ (v : Verdict). textOr v block) passed
 
     block-length : length block ≡ 45 * (length (solution f p n) + 1)
     block-length = output-length p n (solution f p n) (marksOf f p n) (marks-length f p n (p ^ n) accepted-usable)

@@ -3,18 +3,12 @@ use mathlib.Core.List.{List}
 use Prim.Native.Nat.{ℕ}
 use lib.IntN.{ℤ}
 use lib.ListN.{take}
-use Rattle.refusal.specs.Rules.{Verdict, passes, refuses}
 use Rattle.solver.specs.Solve.{solution, marksOf}
 use Rattle.text.specs.declared.Read.{Read}
 use Rattle.text.specs.declared.Read.the-variants.{Given, Refused}
 use Rattle.text.specs.Form.{problemOf}
-use Rattle.writer.specs.Fits.{OutputFits, RefusalFits}
+use Rattle.writer.specs.Fits.{OutputFits, RefusalFits, FitsOr}
 use Rattle.program.specs.Printed.{judged}
-
--- the block of a list of classes, or the line of the refusal: `blockOr`
-abbrev pub FitsOr : Verdict → Type 0 → Type 0
-FitsOr passes block = block
-FitsOr (refuses r) block = RefusalFits r
 
 -- `printedFor`
 abbrev pub FitsFor : Read → List ℤ → Type 0

@@ -5,20 +5,15 @@ use lib.Dec.{ltb}
 use lib.IntN.{ℤ}
 use lib.ListN.{length, take}
 use Rattle.refusal.specs.declared.Refusal.the-variants.{BufferTooSmall}
-use Rattle.refusal.specs.Rules.{Verdict, passes, refuses, rule, tried}
+use Rattle.refusal.specs.Rules.{Verdict, rule, tried}
 use Rattle.numbers.specs.Modulus.{modulusRules}
 use Rattle.solver.specs.Solve.{solution, marksOf}
 use Rattle.text.specs.declared.Read.{Read}
 use Rattle.text.specs.declared.Read.the-variants.{Given, Refused}
 use Rattle.text.specs.Form.{problemOf}
 use Rattle.writer.specs.declared.Written.{Written}
-use Rattle.writer.specs.Output.{outputText, refusalLine}
+use Rattle.writer.specs.Output.{outputText, refusalLine, textOr}
 use Rattle.writer.specs.Written.{bytesOr}
-
--- "For a refused problem the program prints one line instead: refusal number and place, 11 wide each"
-abbrev pub blockOr : Verdict → List ℕ → List ℕ
-blockOr passes block = block
-blockOr (refuses r) block = refusalLine r
 
 -- the reader "does not judge p or n; the program leaves them to the solver": the rules on p and n
 unfoldable pub judged : ℕ → ℕ → Verdict
@@ -28,7 +23,7 @@ judged p n = tried (modulusRules p n)
 -- "Output: a line of p, n, k and root count, then a line a class of residue, level, number of members and mark": the solver's classes
 unfoldable pub solvedText : List ℤ → ℕ → ℕ → List ℕ
 unfolding judged
-solvedText f p n = blockOr (judged p n) (outputText p n (solution f p n) (marksOf f p n))
+solvedText f p n = textOr (judged p n) (outputText p n (solution f p n) (marksOf f p n))
 
 -- what is printed for what the reader gives: its problem has the first c coefficients of the row
 abbrev pub printedFor : Read → List ℤ → List ℕ

@@ -17,11 +17,11 @@ use Rattle.text.specs.declared.Read.the-variants.{Given, Refused}
 use Rattle.text.specs.Form.{problemAt}
 use Rattle.text.proofs.Places.{front-place}
 use Rattle.text.proofs.Front.{given-told}
-use Rattle.writer.specs.Fits.{RefusalFits, RowFits}
+use Rattle.writer.specs.Fits.{RefusalFits, FitsOr, RowFits}
 use Rattle.writer.proofs.Fits.{refusal-fits, row-fits}
 use Rattle.report.specs.declared.step.Totals.{Totals}
 use Rattle.report.specs.Report.{start, after, fromStart}
-use Rattle.report.specs.Fits.{FitsOr, FitsBy, FitsOrLast, FitsFrom, ReportFits}
+use Rattle.report.specs.Fits.{FitsBy, FitsOrLast, FitsFrom, ReportFits}
 use Rattle.report.specs.inner.Outcomes.{Small}
 use Rattle.report.proofs.Totals.{start-small, after-small, from-start-place}
 use Rattle.report.proofs.Counted.{roots-few, row-few}

@@ -17,9 +17,9 @@ use Rattle.text.specs.declared.Read.{Read}
 use Rattle.text.specs.declared.Read.the-variants.{Given, Refused}
 use Rattle.text.specs.Form.{problemAt}
 use Rattle.text.proofs.Front.{given-told}
-use Rattle.writer.specs.Output.{refusalLine, rowLine}
+use Rattle.writer.specs.Output.{refusalLine, textOr, rowLine}
 use Rattle.report.specs.declared.step.Totals.{Totals}
-use Rattle.report.specs.Report.{start, after, fromStart, linesOr, reportBy, linesOrLast, reportFrom, reportText}
+use Rattle.report.specs.Report.{start, after, fromStart, reportBy, linesOrLast, reportFrom, reportText}
 use Rattle.report.specs.Run.{Outcome, next, stop, wait, joined, Run}
 use Rattle.report.specs.inner.Outcomes.{nextOr, outcomeOf, outcomeBy, outcome, endingBy, ending}
 use Rattle.report.proofs.Runs.{Laws, runs}
@@ -81,7 +81,7 @@ module _ (s : Totals) (w : List ℕ) (some : length w ≡ 0 → ⊥) where
         lines =
             rowLine (countRow (take c row) p n) ++ rest (after s end (solutions (take c row) p n)) (drop end w)
 
-        go : (v : Verdict) → R s w ≡ linesOr v lines
+        go : (v : Verdict) → R s w ≡ textOr v lines
             → Says s w (nextOr v (after s end (solutions (take c row) p n)) (rowLine (countRow (take c row) p n)) end)
         go passes h = (h, given-told w p n c end e .inside)
         go (refuses r) h = h

@@ -5,19 +5,14 @@ use lib.IntN.{ℤ}
 use lib.ListN.{take, drop}
 use Rattle.theory.specs.Counts.{solutions, countRow}
 use Rattle.refusal.specs.declared.Refusal.the-variants.{TooManyProblems}
-use Rattle.refusal.specs.Rules.{Verdict, passes, refuses, tried}
+use Rattle.refusal.specs.Rules.{tried}
 use Rattle.numbers.specs.Modulus.{modulusRules}
 use Rattle.text.specs.declared.Read.{Read}
 use Rattle.text.specs.declared.Read.the-variants.{Given, Refused}
 use Rattle.text.specs.Form.{problemAt}
-use Rattle.writer.specs.Fits.{RefusalFits, RowFits}
+use Rattle.writer.specs.Fits.{RefusalFits, FitsOr, RowFits}
 use Rattle.report.specs.declared.step.Totals.{Totals}
 use Rattle.report.specs.Report.{start, after, fromStart}
-
--- `linesOr`
-abbrev pub FitsOr : Verdict → Type 0 → Type 0
-FitsOr passes lines = lines
-FitsOr (refuses r) lines = RefusalFits r
 
 -- `reportBy`
 abbrev pub FitsBy : (Totals → List ℕ → Type 0) → Totals → List ℕ → Read → List ℤ → Type 0

@@ -10,12 +10,12 @@ use Rattle.refusal.specs.declared.Refusal.{Refusal}
 use Rattle.refusal.specs.declared.Refusal.the-variants.{Form, NoCoefficient, TooManyCoefficients}
 use Rattle.refusal.specs.declared.Refusal.the-variants.{PrimeOutOfRange, Composite, Precision, Lengths, Entry, Point}
 use Rattle.refusal.specs.declared.Refusal.the-variants.{MapTooLarge, MapLength, TooFewSlots, BufferTooSmall, TooManyProblems}
-use Rattle.refusal.specs.Rules.{Verdict, passes, refuses, tried}
+use Rattle.refusal.specs.Rules.{tried}
 use Rattle.numbers.specs.Modulus.{modulusRules}
 use Rattle.text.specs.declared.Read.{Read}
 use Rattle.text.specs.declared.Read.the-variants.{Given, Refused}
 use Rattle.text.specs.Form.{problemAt}
-use Rattle.writer.specs.Output.{refusalLine, rowLine}
+use Rattle.writer.specs.Output.{refusalLine, textOr, rowLine}
 use Rattle.report.specs.declared.step.Totals.{Totals}
 
 -- at the start of the text
@@ -53,16 +53,11 @@ fromStart at (TooFewSlots place) = TooFewSlots place
 fromStart at (BufferTooSmall place) = BufferTooSmall place
 fromStart at (TooManyProblems place) = TooManyProblems place
 
--- the lines of a problem that the rules on p and n pass, and of those after it; or the refusal line
-abbrev pub linesOr : Verdict → List ℕ → List ℕ
-linesOr passes lines = lines
-linesOr (refuses r) lines = refusalLine r
-
 -- "Each problem gives a line of its n + 1 counts", and "Bytes after a problem begin the next one"; "The first refused problem ends the
 -- report with its refusal line": by what the reader gives of the problem at the front of the text that is left
 abbrev pub reportBy : (Totals → List ℕ → List ℕ) → Totals → List ℕ → Read → List ℤ → List ℕ
 reportBy rest s left (Given p n c end) row =
-    linesOr (tried (modulusRules p n))
+    textOr (tried (modulusRules p n))
     (rowLine (countRow (take c row) p n) ++ rest (after s end (solutions (take c row) p n)) (drop end left))
 reportBy rest s left (Refused r) row = refusalLine (fromStart (s .at) r)
 

@@ -8,6 +8,7 @@ use Rattle.theory.specs.ClassList.{memberTotal}
 use Rattle.theory.specs.SignedClass.{SignedClass, natural, signedSlot, levelsOf}
 use Rattle.refusal.specs.declared.Refusal.{Refusal}
 use Rattle.refusal.specs.Number.{numberOf, placeOf}
+use Rattle.refusal.specs.Rules.{Verdict, passes, refuses}
 use Rattle.columns.specs.Column.{FitsColumn}
 
 -- "all columns are 11 wide"
@@ -29,6 +30,11 @@ pub record OutputFits (p n : ℕ) (L : List SignedClass) (marks : List ℕ) : Ty
 pub record RefusalFits (r : Refusal) : Type 0 where
   pub number : Fits (pos (numberOf r))
   pub place : Fits (pos (placeOf r))
+
+-- those of `textOr`
+abbrev pub FitsOr : Verdict → Type 0 → Type 0
+FitsOr passes text = text
+FitsOr (refuses r) text = RefusalFits r
 
 -- the numbers of `rowLine`: "Columns are 20 wide"
 abbrev pub RowFits : List ℕ → Type 0

@@ -8,6 +8,7 @@ use Rattle.theory.specs.ClassList.{memberTotal}
 use Rattle.theory.specs.SignedClass.{SignedClass, natural, levelsOf}
 use Rattle.refusal.specs.declared.Refusal.{Refusal}
 use Rattle.refusal.specs.Number.{numberOf, placeOf}
+use Rattle.refusal.specs.Rules.{Verdict, passes, refuses}
 use Rattle.columns.specs.Column.{column, signedColumn, lineEnd}
 
 -- "all columns are 11 wide", "Each line ends in byte 10"; the first number may be negative
@@ -35,6 +36,11 @@ outputText p n cs marks = line (pos p) n (length cs) (memberTotal p n (levelsOf 
 unfoldable pub refusalLine : Refusal → List ℕ
 unfolding column
 refusalLine r = column 11 (numberOf r) ++ column 11 (placeOf r) ++ lineEnd ∷ []
+
+-- "For a refused problem the program prints one line instead": a text, or the line of the refusal
+abbrev pub textOr : Verdict → List ℕ → List ℕ
+textOr passes text = text
+textOr (refuses r) text = refusalLine r
 
 -- the line of a row of numbers (02, 2.1): "Columns are 20 wide"
 unfoldable pub rowLine : List ℕ → List ℕ
