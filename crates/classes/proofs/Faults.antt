@@ -15,7 +15,8 @@ use Rattle.theory.proofs.Tests.{contradiction, or-fails-left, or-fails-right}
 use Rattle.theory.proofs.Lists.Index.{index-of, no-repeat-at}
 use Rattle.theory.proofs.Lists.Map.{in-map}
 use Rattle.theory.proofs.Classes.Share.{common-share, share-self}
-use Rattle.theory.proofs.Classes.Sum.{disjoint-most, total-least}
+use Rattle.theory.proofs.Classes.Sum.{Disjoint, disjoint-most, total-least}
+use Rattle.theory.proofs.Classes.Apart.{Apart}
 use Rattle.theory.proofs.Signed.Classes.{natural-class, natural-levels}
 use Rattle.theory.proofs.Range.{none-found}
 use Rattle.classes.specs.Rule7.{classesOf, sharedEarlier, faultAt}
@@ -68,8 +69,8 @@ module _ (p n : ℕ) (L : List SignedClass) (hp : 0 < p) (F : Faultless p n L) w
       contradiction (common-share p n hp (slot N i) (slot N j) (record { residue = r; of-first = u; of-second = v }))
       (share-at i j h (omega (arith, long)))
 
-  apart : (c d : Class) → In c N → In d N → (r : ℕ) → Member p n c r → Member p n d r → c ≡ d
-  apart c d u v r mc md =
+  disjoint : Disjoint p n N
+  disjoint c d u v r mc md =
       let (i, hi, ei) = index-of N (class 0 0) c u in
       let (j, hj, ej) = index-of N (class 0 0) d v in
       ei ∙ go i j hi hj (rw ei at mc) (rw ej at md) (decLt i j) (decLt j i) ∙ sym ej
@@ -80,14 +81,28 @@ module _ (p n : ℕ) (L : List SignedClass) (hp : 0 < p) (F : Faultless p n L) w
       go i j hi hj mi mj (no h) (yes k) = absurd (clash j i k hi r mj mi)
       go i j hi hj mi mj (no h) (no k) = let e : i ≡ j = omega arith in ap (slot N) e
 
-  -- its classes share no member, so together they have at most pⁿ
+  -- its classes share no member
+  pub faultless-apart : Apart p n (naturals p L)
+  faultless-apart = record { classes = faultless-in; no-repeat = no-repeat-at N (class 0 0) distinct; disjoint = disjoint }
+
+  -- so together they have at most pⁿ
   pub faultless-most : memberTotal p n (levelsOf L) ≤ p ^ n
   faultless-most =
-      rw (natural-levels p L) at (disjoint-most p n hp N faultless-in (no-repeat-at N (class 0 0) distinct) apart)
+      let k = faultless-apart in
+      rw (natural-levels p L) at (disjoint-most p n hp N (k .classes) (k .no-repeat) (k .disjoint))
 
   -- and there are at most pⁿ of them
   pub faultless-few : length L ≤ p ^ n
   faultless-few = omega (arith, faultless-most, total-least p n hp (levelsOf L), length-map L (λ (c : SignedClass). c .level))
+
+-- a list without a fault at n has none at a higher precision
+pub faultless-higher : {p n m : ℕ} {L : List SignedClass} → n ≤ m → Faultless p n L → Faultless p m L
+faultless-higher h F =
+    record {
+      class-at = λ i l. let k = F .class-at i l in record { level-fits = omega (arith, k .level-fits); residue-fits = k .residue-fits };
+      rises = F .rises;
+      apart = F .apart;
+    }
 
 -- entry i of a lent list, as its residue and its level
 pub faultless-entry : (p n : ℕ) (residues : List ℤ) (levels : List ℕ) → length residues ≡ length levels

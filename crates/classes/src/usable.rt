@@ -2,22 +2,8 @@
 ghost use mathlib.Core.Path.{_≡_};
 ghost use Prim.Native.Nat.{_^_, _≤_, _<_};
 ghost use lib.ListN.{length};
-ghost use Rattle.theory.specs.Centered.{isCentered};
 ghost use Rattle.classes.specs.Rule7.{classesOf};
 ghost use Rattle.classes.specs.inner.Search.{unusableAt, usableTo};
-
-// Whether −q < 2z ≤ q.
-fn is_centered(z: i32, q: u64) -> bool
-    requires { ⌜ q ≤ 4294967295 ⌝ }
-    ensures { λ r. ⌜ r ≡ isCentered q z ⌝ }
-{
-    let bound = q as i64;
-    let twice = 2 * (z as i64);
-    if twice <= -bound {
-        return false;
-    }
-    twice <= bound
-}
 
 // Whether entry i has a level above n, a residue out of range or one not above the entry before.
 fn unusable(p: u32, n: u32, residues: &[i32], levels: &[u8], i: usize) -> bool
@@ -28,7 +14,7 @@ fn unusable(p: u32, n: u32, residues: &[i32], levels: &[u8], i: usize) -> bool
     if n < t {
         return true;
     }
-    if !is_centered(residues[i], numbers::power(p, t)) {
+    if !numbers::is_centered(residues[i], numbers::power(p, t) as u32) {
         return true;
     }
     if i == 0 {

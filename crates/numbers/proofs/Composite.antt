@@ -15,7 +15,7 @@ use Rattle.refusal.specs.Rules.{passes, tried}
 use Rattle.refusal.proofs.Rules.{tried-first, rule-passes}
 use Rattle.numbers.specs.declared.Modulus.the-variants.{Refused}
 use Rattle.numbers.specs.Modulus.{rule4, rule14, modulusOf}
-use Rattle.numbers.proofs.Rules.{outOfRange, notPrecise, in-range-two, modulus-4, modulus-14, modulus-5, modulus-passes}
+use Rattle.numbers.proofs.Rules.{outOfRange, notPrecise, in-range-two, modulus-4, modulus-14, left-to-5, precision-5, precision-passes}
 
 -- "p = 4, refused 4 in 01's cases, now gets 14 with place 2", whatever n is
 pub four-is-composite : (n : ℕ) → modulusOf 4 n ≡ Refused (Composite 2)
@@ -40,9 +40,9 @@ module _ (p : ℕ) where
           let both : Refused (Composite (leastDivisor p)) ≡ Refused r = sym (modulus-14 p n four fourteen) ∙ e in
           let same : Composite (leastDivisor p) ≡ r = cc in
           subst (λ (s : Refusal). LeastPrimeDivisor (placeOf s) p) same (least-prime-divisor p (in-range-two p four))
-      go false false true four fourteen five = other Precision (modulus-5 p n four fourteen five) (λ z. omega (arith, z))
+      go false false true four fourteen five = other Precision (left-to-5 p n four fourteen ∙ precision-5 p n five) (λ z. omega (arith, z))
       go false false false four fourteen five =
-          let both = sym (modulus-passes p n four fourteen five) ∙ e in
+          let both = sym (left-to-5 p n four fourteen ∙ precision-passes p n five) ∙ e in
           let z : _≡_ {A = ℕ} 0 1 = cc in
           absurd (omega arith)
 

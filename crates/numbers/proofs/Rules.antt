@@ -14,7 +14,7 @@ use Rattle.refusal.specs.declared.Refusal.the-variants.{PrimeOutOfRange, Compos
 use Rattle.refusal.specs.Rules.{Verdict, passes, refuses, tried}
 use Rattle.refusal.proofs.Rules.{tried-leads, tried-refuses, tried-first, rule-passes}
 use Rattle.numbers.specs.declared.Modulus.the-variants.{Accepted, Refused}
-use Rattle.numbers.specs.Modulus.{rule4, rule14, rule5, modulusRules, powerOr, modulusOf}
+use Rattle.numbers.specs.Modulus.{rule4, rule14, rule5, modulusRules, powerOr, precisionOf, modulusOf}
 use Rattle.numbers.specs.inner.Usable.{Usable}
 
 -- The tests of the rules
@@ -39,13 +39,18 @@ module _ (p n : ℕ) where
   unfolding modulusOf
   modulus-14 e f = rw (e, f)
 
-  pub modulus-5 : outOfRange p ≡ false → isComposite p ≡ false → notPrecise p n ≡ true → modulusOf p n ≡ Refused Precision
-  unfolding modulusOf
-  modulus-5 e f g = rw (e, f, g)
+  -- past rules 4 and 14, rule 5 decides
+  pub left-to-5 : outOfRange p ≡ false → isComposite p ≡ false → modulusOf p n ≡ precisionOf p n
+  unfolding modulusOf precisionOf
+  left-to-5 e f = rw (e, f)
 
-  pub modulus-passes : outOfRange p ≡ false → isComposite p ≡ false → notPrecise p n ≡ false → modulusOf p n ≡ Accepted (p ^ n)
-  unfolding modulusOf
-  modulus-passes e f g = rw (e, f, g)
+  pub precision-5 : notPrecise p n ≡ true → precisionOf p n ≡ Refused Precision
+  unfolding precisionOf
+  precision-5 e = rw e
+
+  pub precision-passes : notPrecise p n ≡ false → precisionOf p n ≡ Accepted (p ^ n)
+  unfolding precisionOf
+  precision-passes e = rw e
 
 -- What an answer says of the rules
 

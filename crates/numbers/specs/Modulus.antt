@@ -31,6 +31,12 @@ abbrev pub powerOr : Verdict → ℕ → Modulus
 powerOr passes m = Accepted m
 powerOr (refuses r) m = Refused r
 
+-- by rule 5 alone
+unfoldable pub precisionOf : ℕ → ℕ → Modulus
+unfolding rule5
+precisionOf p n = powerOr (tried (rule5 p n ∷ [])) (p ^ n)
+
+-- by all three
 unfoldable pub modulusOf : ℕ → ℕ → Modulus
 unfolding modulusRules
 modulusOf p n = powerOr (tried (modulusRules p n)) (p ^ n)

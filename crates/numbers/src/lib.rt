@@ -4,12 +4,13 @@ ghost use Prim.Native.Nat.{_-_, _^_, min};
 ghost use Rattle.theory.specs.Prime.{leastDivisor};
 ghost use Rattle.theory.specs.ClassList.{memberTotal};
 ghost use Rattle.numbers.specs.Saturated.{saturated};
-ghost use Rattle.numbers.specs.Modulus.{modulusOf};
+ghost use Rattle.numbers.specs.Modulus.{precisionOf, modulusOf};
 use refusal::Refusal;
 
 mod residue;
 
 pub use residue::centered;
+pub use residue::is_centered;
 pub use residue::reduce;
 
 // The smaller of two.
@@ -90,6 +91,17 @@ pub enum Modulus {
     Refused(Refusal),
 }
 
+// Rule 5.
+pub fn check_precision(p: u32, n: u32) -> Modulus
+    ensures { λ r. ⌜ r ≡ precisionOf p n ⌝ }
+{
+    let modulus = power(p, n);
+    if n == 0 || 4294967295 < modulus {
+        return Modulus::Refused(Refusal::Precision);
+    }
+    Modulus::Accepted(modulus)
+}
+
 // Rules 4, 14 and 5.
 pub fn check_modulus(p: u32, n: u32) -> Modulus
     ensures { λ r. ⌜ r ≡ modulusOf p n ⌝ }
@@ -101,9 +113,5 @@ pub fn check_modulus(p: u32, n: u32) -> Modulus
     if divisor != p as usize {
         return Modulus::Refused(Refusal::Composite(divisor));
     }
-    let modulus = power(p, n);
-    if n == 0 || 4294967295 < modulus {
-        return Modulus::Refused(Refusal::Precision);
-    }
-    Modulus::Accepted(modulus)
+    check_precision(p, n)
 }

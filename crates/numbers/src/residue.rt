@@ -2,7 +2,7 @@
 ghost use mathlib.Core.Path.{_≡_};
 ghost use Prim.Native.Nat.{_-_, _%_};
 ghost use Rattle.theory.specs.Polynomial.{reduce as reduceOf};
-ghost use Rattle.theory.specs.Centered.{centered as centeredOf};
+ghost use Rattle.theory.specs.Centered.{isCentered, centered as centeredOf};
 
 // k modulo m, which is k itself for m = 0.
 fn remainder(k: u64, m: u64) -> u64
@@ -43,4 +43,16 @@ pub fn centered(a: u32, q: u32) -> i64
         return a as i64;
     }
     a as i64 - q as i64
+}
+
+// Whether z is in the range of the numbers of least size modulo q: −q < 2z ≤ q.
+pub fn is_centered(z: i32, q: u32) -> bool
+    ensures { λ r. ⌜ r ≡ isCentered q z ⌝ }
+{
+    let bound = q as i64;
+    let twice = 2 * (z as i64);
+    if twice <= -bound {
+        return false;
+    }
+    twice <= bound
 }

@@ -6,18 +6,19 @@ use Prim.Native.Nat.{ℕ, _≤_}
 use native.Mathlib.Omega.{arith}
 use Rattle.refusal.specs.declared.Refusal.{Refusal}
 use Rattle.refusal.specs.declared.Refusal.the-variants.{Form, NoCoefficient, TooManyCoefficients}
-use Rattle.refusal.specs.declared.Refusal.the-variants.{PrimeOutOfRange, Composite, Precision, Lengths, Entry, Point}
+use Rattle.refusal.specs.declared.Refusal.the-variants.{PrimeOutOfRange, Composite, Precision, PrecisionsFall, Lengths, Entry, Point}
 use Rattle.refusal.specs.declared.Refusal.the-variants.{MapTooLarge, MapLength, TooFewSlots, BufferTooSmall, TooManyProblems}
 use Rattle.refusal.specs.Number.{numberOf, placeOf}
 use Rattle.refusal.specs.Rules.{Verdict, passes, refuses, rule, tried}
 
-pub number-at-most : (r : Refusal) → numberOf r ≤ 14
+pub number-at-most : (r : Refusal) → numberOf r ≤ 17
 number-at-most (Form place) = omega arith
 number-at-most NoCoefficient = omega arith
 number-at-most TooManyCoefficients = omega arith
 number-at-most PrimeOutOfRange = omega arith
 number-at-most (Composite divisor) = omega arith
 number-at-most Precision = omega arith
+number-at-most PrecisionsFall = omega arith
 number-at-most (Lengths place) = omega arith
 number-at-most (Entry place) = omega arith
 number-at-most Point = omega arith

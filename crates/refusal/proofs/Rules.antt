@@ -10,9 +10,9 @@ use borrow.Author.Tests.{eq-eqb, ne-eqb, lt-ltb, le-ltb, le-leb, lt-leb, eqb-tru
 use lib.Dec.{eqb}
 use Rattle.refusal.specs.declared.Refusal.{Refusal}
 use Rattle.refusal.specs.declared.Refusal.the-variants.{NoCoefficient, TooManyCoefficients, Lengths, Point, MapTooLarge, MapLength}
-use Rattle.refusal.specs.declared.Refusal.the-variants.{TooFewSlots, BufferTooSmall}
+use Rattle.refusal.specs.declared.Refusal.the-variants.{TooFewSlots, BufferTooSmall, PrecisionsFall}
 use Rattle.refusal.specs.Rules.{Verdict, passes, refuses, tried, rule2, rule3, rule6, rule6Three, rule8, rule9, rule10, rule11}
-use Rattle.refusal.specs.Rules.{rule12, rule, filled}
+use Rattle.refusal.specs.Rules.{rule12, rule17, rule, filled}
 
 pub rule2-refuses : (count : ℕ) → count ≡ 0 → rule2 count ≡ refuses NoCoefficient
 rule2-refuses count e = rw (eq-eqb count 0 e)
@@ -25,6 +25,18 @@ rule3-refuses count h = rw (lt-ltb 65 count h)
 
 pub rule3-passes : (count : ℕ) → count ≤ 65 → rule3 count ≡ passes
 rule3-passes count h = rw (le-ltb 65 count h)
+
+pub rule17-falls : (n m residues levels : ℕ) → m < n → rule17 n m residues levels ≡ refuses PrecisionsFall
+rule17-falls n m residues levels h = rw (lt-ltb m n h)
+
+pub rule17-residues : (n m residues levels : ℕ) → n ≤ m → 64 < residues → rule17 n m residues levels ≡ refuses PrecisionsFall
+rule17-residues n m residues levels h k = rw (le-ltb m n h, lt-ltb 64 residues k)
+
+pub rule17-levels : (n m residues levels : ℕ) → n ≤ m → residues ≤ 64 → 64 < levels → rule17 n m residues levels ≡ refuses PrecisionsFall
+rule17-levels n m residues levels h k l = rw (le-ltb m n h, le-ltb 64 residues k, lt-ltb 64 levels l)
+
+pub rule17-passes : (n m residues levels : ℕ) → n ≤ m → residues ≤ 64 → levels ≤ 64 → rule17 n m residues levels ≡ passes
+rule17-passes n m residues levels h k l = rw (le-ltb m n h, le-ltb 64 residues k, le-ltb 64 levels l)
 
 pub rule6-refuses : (a b : ℕ) → (a ≡ b → ⊥) → rule6 a b ≡ refuses (Lengths (min a b))
 rule6-refuses a b h = rw (ne-eqb a b h)

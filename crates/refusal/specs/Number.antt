@@ -2,7 +2,7 @@
 use Prim.Native.Nat.{ℕ}
 use Rattle.refusal.specs.declared.Refusal.{Refusal}
 use Rattle.refusal.specs.declared.Refusal.the-variants.{Form, NoCoefficient, TooManyCoefficients}
-use Rattle.refusal.specs.declared.Refusal.the-variants.{PrimeOutOfRange, Composite, Precision, Lengths, Entry, Point}
+use Rattle.refusal.specs.declared.Refusal.the-variants.{PrimeOutOfRange, Composite, Precision, PrecisionsFall, Lengths, Entry, Point}
 use Rattle.refusal.specs.declared.Refusal.the-variants.{MapTooLarge, MapLength, TooFewSlots, BufferTooSmall, TooManyProblems}
 
 abbrev pub numberOf : Refusal → ℕ
@@ -12,6 +12,7 @@ numberOf TooManyCoefficients = 3
 numberOf PrimeOutOfRange = 4
 numberOf (Composite divisor) = 14
 numberOf Precision = 5
+numberOf PrecisionsFall = 17
 numberOf (Lengths place) = 6
 numberOf (Entry place) = 7
 numberOf Point = 8
@@ -28,6 +29,7 @@ placeOf TooManyCoefficients = 0
 placeOf PrimeOutOfRange = 0
 placeOf (Composite divisor) = divisor
 placeOf Precision = 0
+placeOf PrecisionsFall = 0
 placeOf (Lengths place) = place
 placeOf (Entry place) = place
 placeOf Point = 0

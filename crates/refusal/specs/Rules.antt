@@ -1,12 +1,12 @@
 -- The rules of 01's "When the solver declines" that are tests on numbers, and how rules are tried.
-use mathlib.Core.Bool.{Bool, true, false, not, _&&_}
+use mathlib.Core.Bool.{Bool, true, false, not, _&&_, _||_}
 use mathlib.Core.List.{List, [], _∷_, _++_}
 use Prim.Native.Nat.{ℕ, _+_, _*_, min}
 use lib.Dec.{eqb, ltb, leb}
 use lib.ListN.{length, drop}
 use Rattle.refusal.specs.declared.Refusal.{Refusal}
 use Rattle.refusal.specs.declared.Refusal.the-variants.{NoCoefficient, TooManyCoefficients, Lengths, Point, MapTooLarge, MapLength}
-use Rattle.refusal.specs.declared.Refusal.the-variants.{TooFewSlots, BufferTooSmall}
+use Rattle.refusal.specs.declared.Refusal.the-variants.{TooFewSlots, BufferTooSmall, PrecisionsFall}
 
 -- what a rule says of a call
 pub data Verdict : Type 0 where
@@ -18,7 +18,7 @@ abbrev pub rule : Bool → Refusal → Verdict
 rule true r = refuses r
 rule false r = passes
 
--- "The rules are tried by rising number, and the first that applies is the refusal"; 02 puts 14 "directly after 4"
+-- "The rules are tried by rising number, and the first that applies is the refusal"; 02 puts 14 "directly after 4" and 17 "directly after rule 5"
 abbrev pub tried : List Verdict → Verdict
 tried [] = passes
 tried (passes ∷ rules) = tried rules
@@ -36,6 +36,10 @@ rule2 count = rule (eqb count 0) NoCoefficient
 -- "3. There are more than 65 coefficients."
 abbrev pub rule3 : ℕ → Verdict
 rule3 count = rule (ltb 65 count) TooManyCoefficients
+
+-- "17, m below n or a given list of more than 64 entries" (02, 2.9): residues and levels are given, each a list
+abbrev pub rule17 : (n m residues levels : ℕ) → Verdict
+rule17 n m residues levels = rule (ltb m n || ltb 64 residues || ltb 64 levels) PrecisionsFall
 
 -- "6. The lists differ in length; the place is the shortest length.", for two lists and for three
 abbrev pub rule6 : ℕ → ℕ → Verdict

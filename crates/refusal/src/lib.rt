@@ -15,6 +15,8 @@ pub enum Refusal {
     Composite(usize),
     // 5: n is 0, or pⁿ exceeds 4,294,967,295
     Precision,
+    // 17: the precision to raise to is below the given one, or a given list has more than 64 entries
+    PrecisionsFall,
     // 6: the lists differ in length; the shortest length
     Lengths(usize),
     // 7: the first index of a given list whose entry is not usable
@@ -45,6 +47,7 @@ impl Refusal {
             Refusal::PrimeOutOfRange => 4,
             Refusal::Composite(_) => 14,
             Refusal::Precision => 5,
+            Refusal::PrecisionsFall => 17,
             Refusal::Lengths(_) => 6,
             Refusal::Entry(_) => 7,
             Refusal::Point => 8,
@@ -67,6 +70,7 @@ impl Refusal {
             Refusal::PrimeOutOfRange => 0,
             Refusal::Composite(place) => place,
             Refusal::Precision => 0,
+            Refusal::PrecisionsFall => 0,
             Refusal::Lengths(place) => place,
             Refusal::Entry(place) => place,
             Refusal::Point => 0,

@@ -14,5 +14,8 @@ pub mod Tree
 pub mod Branch
 pub mod Members
 pub mod Sum
+pub mod Apart
+pub mod Under
+pub mod Started
 pub mod OneAbove
 pub mod Share

@@ -16,15 +16,13 @@ use Rattle.theory.specs.Polynomial.{reduced, zeros, roots, valueℤ, Mul
 use Rattle.theory.specs.Shortest.{count}
 use Rattle.theory.specs.Counts.{solutions, countsBelow}
 use Rattle.theory.proofs.Lists.NoRepeat.{NoRepeat}
-use Rattle.theory.proofs.Numbers.Power.{pow-pos, pow-dvd, pow-split}
-use Rattle.theory.proofs.Numbers.Congruence.{cong-refl, cong-residue, cong-sym}
-use Rattle.theory.proofs.Numbers.Reduction.{reduce-down}
+use Rattle.theory.proofs.Numbers.Power.{pow-split}
 use Rattle.theory.proofs.Range.{passing-sound, passing-complete, passing-no-repeat}
 use Rattle.theory.proofs.Passing.{passing-most}
 use Rattle.theory.proofs.Sums.{passes-on}
 use Rattle.theory.proofs.Counting.{count-one, periods-total}
-use Rattle.theory.proofs.Polynomials.Congruence.{SameModulo, zeros-same}
 use Rattle.theory.proofs.Polynomials.Zeros.{zeros-everything, zeros-periodic}
+use Rattle.theory.proofs.Polynomials.Lower.{zeros-lower}
 use Rattle.theory.proofs.Polynomials.Signed.{root-signed}
 
 -- "the number of residues below p^j at which f is a multiple of p^j", over the integers: the entries of a list that holds exactly these,
@@ -72,18 +70,6 @@ row-at f p (suc k) j h = go (row-at f p k j) (decLt j k)
         rw e (getD-at (countsBelow f p k) (solutions f p k) [] 0 k (row-length f p k))
 
 -- By one reduction and one range of residues for all
-
--- reduced modulo pⁿ, the coefficients are right for each lower precision
-reduced-lower : (f : List ℤ) (p j n : ℕ) → 0 < p → j ≤ n → SameModulo (p ^ j) (reduced f p n) (reduced f p j)
-unfolding reduced
-reduced-lower [] p j n hp h i = cong-refl
-reduced-lower (a ∷ f) p j n hp h zero =
-    cong-sym (cong-residue (sym (reduce-down (p ^ j) (p ^ n) (pow-pos p hp j) (pow-pos p hp n) (pow-dvd p h) a)))
-reduced-lower (a ∷ f) p j n hp h (suc i) = reduced-lower f p j n hp h i
-
-zeros-lower : (f : List ℤ) (p j n : ℕ) → 0 < p → j ≤ n → zeros (reduced f p n) p j ≡ roots f p j
-unfolding roots
-zeros-lower f p j n hp h = zeros-same (reduced f p n) (reduced f p j) p j (reduced-lower f p j n hp h)
 
 pub solutions-zeros : (f : List ℤ) (p j n : ℕ) → 0 < p → j ≤ n → solutions f p j ≡ count (zeros (reduced f p n) p j) p j
 unfolding solutions

@@ -9,3 +9,4 @@ pub mod Rising
 pub mod Minimum
 pub mod Fill
 pub mod Overwritten
+pub mod Keep

@@ -7,9 +7,12 @@ use native.Mathlib.Nat.{zero-add, sub-zero}
 use native.Mathlib.Omega.{arith}
 use lib.ListN.{getD, take, length-append, length}
 use lib.Seq.{getD-take, length-take-le, take-take}
-use Rattle.theory.proofs.Lists.Index.{in-at}
 use Rattle.theory.specs.Range.{passing}
-use Rattle.theory.proofs.Range.{passing-on, passing-off, passing-append, passing-sound}
+use Rattle.theory.proofs.Lists.Index.{in-at}
+use Rattle.theory.proofs.Lists.Map.{map-in}
+use Rattle.theory.proofs.Lists.Permutation.{perm-in}
+use Rattle.theory.proofs.Lists.Pigeonhole.{pigeonhole-full}
+use Rattle.theory.proofs.Range.{passing-on, passing-off, passing-append, passing-sound, passing-complete, passing-no-repeat}
 
 -- one number more
 pub passing-next-on : (f : ℕ → Bool) (k : ℕ) → f k ≡ true → passing f (k + 1) 0 ≡ passing f k 0 ++ (k ∷ [])
@@ -109,3 +112,13 @@ passing-all f zero i h = refl
 passing-all f (suc k) i h =
     ap length (passing-on f k i (h i (omega arith) (omega arith)))
     ∙ ap suc (passing-all f k (suc i) (λ c l b. h c (omega arith) (omega arith)))
+
+-- a test that passes no number that another fails, and as many as it, passes the same
+pub passing-as-many : (f g : ℕ → Bool) (k i : ℕ) → ((x : ℕ) → i ≤ x → x < i + k → f x ≡ true → g x ≡ true)
+    → length (passing f k i) ≡ length (passing g k i) → (x : ℕ) → i ≤ x → x < i + k → g x ≡ true → f x ≡ true
+passing-as-many f g k i sub e x low high q =
+    let same : ℕ → ℕ = λ y. y in
+    let d = pigeonhole-full same (passing f k i) (passing g k i) (passing-no-repeat f k i) (λ y u.
+    let w = passing-sound f k i y u in
+    (y, passing-complete g k i y (sub y (w .low) (w .high) (w .passes)) (w .low) (w .high), refl)) e in
+    passing-sound f k i x (perm-in d (map-in same (passing g k i) x (passing-complete g k i x q low high))) .passes

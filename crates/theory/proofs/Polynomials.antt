@@ -4,6 +4,7 @@ pub mod Taylor
 pub mod Congruence
 pub mod Shifts
 pub mod Zeros
+pub mod Lower
 pub mod Quotient
 pub mod Orders
 pub mod Bound

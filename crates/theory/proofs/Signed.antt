@@ -4,3 +4,6 @@ pub mod Classes
 pub mod List
 pub mod Entries
 pub mod Demand
+pub mod AddsUp
+pub mod Join
+pub mod Raised

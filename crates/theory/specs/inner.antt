@@ -2,3 +2,6 @@
 pub mod Tree
 pub mod Polynomial
 pub mod Overwritten
+pub mod Keep
+pub mod Started
+pub mod Join

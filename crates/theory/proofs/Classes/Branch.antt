@@ -12,13 +12,13 @@ use Rattle.theory.specs.Lists.{In, here}
 use Rattle.theory.specs.Range.{allBelow, passing}
 use Rattle.theory.specs.Degree.{every}
 use Rattle.theory.specs.Class.{Class}
-use Rattle.theory.specs.inner.Tree.{concatBelow, branch, deeper, tree}
+use Rattle.theory.specs.inner.Tree.{concatBelow, flat, branch, deeper, tree}
 use Rattle.theory.proofs.Tests.{contradiction, same-test, and-left, and-right, and-intro}
 use Rattle.theory.proofs.Numbers.Power.{pow-pos}
 use Rattle.theory.proofs.Range.{all-elim, all-intro, passing-sound, passing-complete}
 use Rattle.theory.proofs.Passing.{passing-full, passing-all}
 use Rattle.theory.proofs.Polynomials.Highest.{every-in, in-every}
-use Rattle.theory.proofs.Classes.Concat.{flat, concat-passing}
+use Rattle.theory.proofs.Classes.Concat.{concat-passing}
 use Rattle.theory.proofs.Classes.Whole.{whole-elim}
 use Rattle.theory.proofs.Classes.Cover.{own-member}
 use Rattle.theory.proofs.Classes.Tree.{below, entries, tree-split}

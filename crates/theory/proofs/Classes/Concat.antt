@@ -11,7 +11,7 @@ use Rattle.theory.proofs.Passing.{passing-next-off, passing-next-on}
 use Rattle.theory.specs.Range.{passing}
 use Rattle.theory.specs.Lists.{In, here, there}
 use Rattle.theory.specs.Class.{Class}
-use Rattle.theory.specs.inner.Tree.{concatBelow}
+use Rattle.theory.specs.inner.Tree.{concatBelow, flat}
 use Rattle.theory.proofs.Lists.Names.{in-nil, in-append, in-left, in-right}
 use Rattle.theory.proofs.Lists.NoRepeat.{NoRepeat, no-repeat-append}
 
@@ -44,32 +44,29 @@ no-repeat-concat f (suc k) each apart =
     (each k (omega arith))
     (λ e u v. let (c, l, w) = in-concat f k e u in omega (arith, apart c k e (omega arith) (omega arith) w v))
 
--- the lists of the given digits, one after the other
-unfoldable pub flat : (ℕ → List Class) → List ℕ → List Class
-flat f [] = []
-flat f (c ∷ l) = f c ++ flat f l
+-- The lists of the entries of a list
 
-pub flat-next : (f : ℕ → List Class) (l : List ℕ) (c : ℕ) → flat f (l ++ (c ∷ [])) ≡ flat f l ++ f c
+pub flat-next : {A : Type 0} (f : A → List Class) (l : List A) (c : A) → flat f (l ++ (c ∷ [])) ≡ flat f l ++ f c
 unfolding flat
 flat-next f [] c = append-nil (f c)
 flat-next f (x ∷ l) c = ap (λ r. f x ++ r) (flat-next f l c) ∙ sym (append-assoc (f x) (flat f l) (f c))
 
-pub in-flat : (f : ℕ → List Class) (l : List ℕ) (e : Class) → In e (flat f l) → (c : ℕ) × In c l × In e (f c)
+pub in-flat : {A : Type 0} (f : A → List Class) (l : List A) (e : Class) → In e (flat f l) → (c : A) × In c l × In e (f c)
 unfolding flat
 in-flat f [] e u = absurd (in-nil u)
-in-flat f (x ∷ l) e u = go (in-flat f l e) (in-append (f x) u)
+in-flat {A} f (x ∷ l) e u = go (in-flat f l e) (in-append (f x) u)
   where
-    go : (In e (flat f l) → (c : ℕ) × In c l × In e (f c)) → In e (f x) ⊎ In e (flat f l) → (c : ℕ) × In c (x ∷ l) × In e (f c)
+    go : (In e (flat f l) → (c : A) × In c l × In e (f c)) → In e (f x) ⊎ In e (flat f l) → (c : A) × In c (x ∷ l) × In e (f c)
     go ih (inl w) = (x, here refl, w)
     go ih (inr w) = let (c, v, m) = ih w in (c, there v, m)
 
-pub flat-in : (f : ℕ → List Class) (l : List ℕ) (c : ℕ) (e : Class) → In c l → In e (f c) → In e (flat f l)
+pub flat-in : {A : Type 0} (f : A → List Class) (l : List A) (c : A) (e : Class) → In c l → In e (f c) → In e (flat f l)
 unfolding flat
 flat-in f (x ∷ l) c e (here q) m = let w : In e (f x) = rw (← q) m in in-left (flat f l) w
 flat-in f (x ∷ l) c e (there u) m = in-right (f x) (flat-in f l c e u m)
 
-pub no-repeat-flat : (f : ℕ → List Class) (l : List ℕ) → NoRepeat l → ((c : ℕ) → In c l → NoRepeat (f c))
-    → ((c d : ℕ) (e : Class) → In c l → In d l → In e (f c) → In e (f d) → c ≡ d) → NoRepeat (flat f l)
+pub no-repeat-flat : {A : Type 0} (f : A → List Class) (l : List A) → NoRepeat l → ((c : A) → In c l → NoRepeat (f c))
+    → ((c d : A) (e : Class) → In c l → In d l → In e (f c) → In e (f d) → c ≡ d) → NoRepeat (flat f l)
 unfolding flat
 no-repeat-flat f [] nr each apart = tt
 no-repeat-flat f (x ∷ l) nr each apart =

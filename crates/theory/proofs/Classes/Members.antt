@@ -1,16 +1,19 @@
 -- The members of a list of classes, as a set.
-use mathlib.Core.Path.{_≡_, refl}
+use mathlib.Core.Path.{_≡_, refl, ap, ap₂}
 use mathlib.Core.Logic.{_⊎_, inl, inr}
 use mathlib.Core.Bool.{Bool, true, false, _||_, false≢true}
 use mathlib.Core.List.{List, [], _∷_, _++_}
-use Prim.Native.Nat.{ℕ, _-_, _%_, _^_, _<_}
+use Prim.Native.Nat.{ℕ, _-_, _%_, _^_, _≤_, _<_}
+use native.Mathlib.Nat.{mod-mod-of-dvd}
 use native.Mathlib.Omega.{arith}
 use borrow.Author.Tests.{eqb-true, eq-eqb}
+use lib.Dec.{eqb}
 use Rattle.theory.specs.Lists.{In, here, there}
 use Rattle.theory.specs.Class.{Class, isMember}
 use Rattle.theory.specs.ClassList.{members, from}
 use Rattle.theory.specs.Rival.{Rival}
 use Rattle.theory.proofs.Tests.{same-test, or-cases, or-left, or-right}
+use Rattle.theory.proofs.Numbers.Power.{pow-dvd}
 use Rattle.theory.proofs.Range.{passing-same}
 
 pub member-congruent : (p : ℕ) (c : Class) (r : ℕ) → isMember p c r ≡ true → r % p ^ (c .level) ≡ c .residue
@@ -66,3 +69,12 @@ members-snoc p (d ∷ l) c r = go (members-snoc p l c r) (isMember p d r) refl
         → (isMember p d r || members p (l ++ (c ∷ [])) r) ≡ (isMember p d r || members p l r || isMember p c r)
     go ih true e = rw e
     go ih false e = rw e ih
+
+-- levels up to n: the residue modulo pⁿ tells
+pub members-modulo : (p n : ℕ) (l : List Class) → ((c : Class) → In c l → c .level ≤ n) → (r : ℕ) → members p l (r % p ^ n) ≡ members p l r
+unfolding members isMember
+members-modulo p n [] fits r = refl
+members-modulo p n (c ∷ l) fits r =
+    ap₂ (λ (a b : Bool). a || b)
+    (ap (λ (x : ℕ). eqb x (c .residue)) (mod-mod-of-dvd (p ^ (c .level)) r (pow-dvd p (fits c (here refl)))))
+    (members-modulo p n l (λ d u. fits d (there u)) r)

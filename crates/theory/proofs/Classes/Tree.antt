@@ -77,7 +77,7 @@ whole-deeper S p l c e =
     (fun-ext (λ i. ap S (rw (pow-succ' p (e .level)) (omega arith))))
     (ap (λ (x : ℕ). p ^ x) (suc-sub-suc l (e .level)))
 
-whole-top : (S : ℕ → Bool) (p l : ℕ) → isWhole S p l (class 0 0) ≡ allBelow S (p ^ l)
+pub whole-top : (S : ℕ → Bool) (p l : ℕ) → isWhole S p l (class 0 0) ≡ allBelow S (p ^ l)
 unfolding isWhole
 whole-top S p l =
     ap₂ allBelow

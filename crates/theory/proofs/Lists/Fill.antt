@@ -24,7 +24,7 @@ pub part-back : {A : Type 0} (n : ℕ) (l e : List A) → n ≤ length l → len
 part-back n l e h k = take-at e (drop n l) n (k ∙ length-take-le n l h)
 
 module _ {A B : Type 0} (f : A → B) (xs : List A) (i : ℕ) (d : A) (hx : i < length xs) where
-  map-take-next : map f (take (i + 1) xs) ≡ map f (take i xs) ++ (f (getD xs i d) ∷ [])
+  pub map-take-next : map f (take (i + 1) xs) ≡ map f (take i xs) ++ (f (getD xs i d) ∷ [])
   map-take-next = ap (map f) (take-next xs i d hx) ∙ map-append f (take i xs) (getD xs i d ∷ [])
 
   -- the first i entries are f of xs, and the next is written

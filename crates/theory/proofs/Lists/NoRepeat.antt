@@ -10,10 +10,17 @@ abbrev pub NoRepeat : {A : Type 0} → List A → Type 0
 NoRepeat [] = Unit {0}
 NoRepeat (x ∷ l) = (In x l → ⊥) × NoRepeat l
 
+-- the images under a function that tells the entries apart
+pub no-repeat-map-on : {A B : Type 0} (f : A → B) (l : List A) → ((x y : A) → In x l → In y l → f x ≡ f y → x ≡ y) → NoRepeat l
+    → NoRepeat (map f l)
+no-repeat-map-on f [] inj nr = tt
+no-repeat-map-on f (x ∷ l) inj nr = (
+  (λ m. let (a, u, e) = in-map f l (f x) m in nr .0 (in-cast (inj x a (here refl) (there u) e) u)),
+  no-repeat-map-on f l (λ y z u v. inj y z (there u) (there v)) (nr .1),
+)
+
 pub no-repeat-map : {A B : Type 0} (f : A → B) → ((x y : A) → f x ≡ f y → x ≡ y) → (l : List A) → NoRepeat l → NoRepeat (map f l)
-no-repeat-map f inj [] nr = tt
-no-repeat-map f inj (x ∷ l) nr =
-    ((λ m. let (a, u, e) = in-map f l (f x) m in nr .0 (in-cast (inj x a e) u)), no-repeat-map f inj l (nr .1))
+no-repeat-map f inj l nr = no-repeat-map-on f l (λ x y u v. inj x y) nr
 
 pub no-repeat-append : {A : Type 0} (l m : List A) → NoRepeat l → NoRepeat m → ((x : A) → In x l → In x m → ⊥) → NoRepeat (l ++ m)
 no-repeat-append [] m nl nm apart = nm

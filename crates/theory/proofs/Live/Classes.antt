@@ -16,7 +16,8 @@ use Rattle.theory.proofs.Lists.Names.{in-cons, in-nil, in-single}
 use Rattle.theory.proofs.Lists.NoRepeat.{NoRepeat}
 use Rattle.theory.proofs.Numbers.Power.{pow-pos, pow-dvd}
 use Rattle.theory.proofs.Numbers.Prime.{prime-pos}
-use Rattle.theory.proofs.Classes.Concat.{flat, in-flat, flat-in, no-repeat-flat}
+use Rattle.theory.specs.inner.Tree.{flat}
+use Rattle.theory.proofs.Classes.Concat.{in-flat, flat-in, no-repeat-flat}
 use Rattle.theory.proofs.Classes.Digit.{digit-lt, digit-mod}
 use Rattle.theory.proofs.Live.Digits.{digits-lt, digits-no-repeat, no-digits}
 

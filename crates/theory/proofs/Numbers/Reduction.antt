@@ -1,7 +1,7 @@
 -- Integers modulo m: `reduce` is a ring homomorphism, and tells the multiples of m.
 use mathlib.Core.Path.{_≡_, refl, sym, ap, _∙_}
 use mathlib.Core.Logic.{_↔_}
-use Prim.Native.Nat.{ℕ, suc, _+_, _-_, _*_, _/_, _%_, _<_, _∣_}
+use Prim.Native.Nat.{ℕ, suc, _+_, _-_, _*_, _/_, _%_, _^_, _≤_, _<_, _∣_}
 use native.Mathlib.Nat.{mod-lt, mod-eq-of-lt, zero-mod, mul-add-mod-self-right, mul-mod-right, div-add-mod'}
 use native.Mathlib.Nat.{mod-eq-zero-of-dvd, dvd-of-mod-eq-zero}
 use native.Mathlib.Omega.{arith}
@@ -9,6 +9,7 @@ use lib.IntN.{ℤ, pos, negsuc, negℤ, _+ℤ_, _-ℤ_, _*ℤ_}
 use Rattle.theory.specs.Polynomial.{reduce, Multiple}
 use Rattle.theory.proofs.Numbers.Congruence.{Congruent, cong-refl, cong-sym, cong-trans, cong-of-eq, cong-mod, cong-add, cong-mul}
 use Rattle.theory.proofs.Numbers.Congruence.{cong-cancel, cong-down}
+use Rattle.theory.proofs.Numbers.Power.{pow-pos, pow-dvd}
 use Rattle.theory.proofs.Numbers.Integers.{up, down, Is, sum-is, opposite-is, product-is}
 
 module _ (m : ℕ) (hm : 0 < m) where
@@ -92,7 +93,11 @@ reduce-down k m hk hm d z =
     sym (reduce-from k hk z (up z) (down z) (reduce m z) refl (cong-down d (reduce-is m hm z)) .same)
     ∙ mod-eq-of-lt (reduce-lt k hk z)
 
--- so a divisor k of m divides z exactly if it divides the reduction modulo m
+-- the reduction modulo a power, reduced modulo a lower one
+pub reduce-lower : (p : ℕ) → 0 < p → (t u : ℕ) → t ≤ u → (z : ℤ) → reduce (p ^ u) z % p ^ t ≡ reduce (p ^ t) z
+reduce-lower p hp t u h z = reduce-down (p ^ t) (p ^ u) (pow-pos p hp t) (pow-pos p hp u) (pow-dvd p h) z
+
+-- a divisor k of m divides z exactly if it divides the reduction modulo m
 pub multiple-dvd : (k m : ℕ) → 0 < k → 0 < m → k ∣ m → (z : ℤ) → Multiple k z ↔ (k ∣ reduce m z)
 multiple-dvd k m hk hm d z =
     let down = reduce-down k m hk hm d z in (

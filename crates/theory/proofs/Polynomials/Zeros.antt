@@ -1,4 +1,4 @@
--- The zeros of a polynomial modulo a power of p: below a digit, after a division by p, at 0, and where there are none or all.
+-- The zeros of a polynomial modulo a power of p: below a digit, in a class, after a division by p, at 0, and where there are none or all.
 use mathlib.Core.Path.{_≡_, sym, ap, subst₂, fun-ext}
 use mathlib.Core.Bool.{true, false}
 use mathlib.Core.List.{List}
@@ -10,7 +10,9 @@ use lib.Pow.{pow-add}
 use Rattle.theory.specs.Prime.{divides}
 use Rattle.theory.specs.Polynomial.{value, zeros, divided}
 use Rattle.theory.specs.Degree.{allZero}
+use Rattle.theory.specs.Class.{Class}
 use Rattle.theory.specs.inner.Tree.{branch}
+use Rattle.theory.specs.inner.Started.{branchAt}
 use Rattle.theory.proofs.Tests.{same-test, not-holding}
 use Rattle.theory.proofs.Numbers.Power.{pow-pos, base-dvd}
 use Rattle.theory.proofs.Numbers.Prime.{divides-dvd, dvd-divides}
@@ -30,10 +32,17 @@ pub dvd-zero-at : (f : List ℕ) (p n y : ℕ) → p ^ n ∣ value f y → zeros
 unfolding zeros
 dvd-zero-at f p n y d = dvd-divides (p ^ n) (value f y) d
 
+zeros-shifted : (f : List ℕ) (p n a q : ℕ) → (λ y. zeros f p n (a + q * y)) ≡ zeros (shifted a q f) p n
+unfolding zeros
+zeros-shifted f p n a q = fun-ext (λ y. ap (divides (p ^ n)) (sym (value-shifted a q f y)))
+
 -- below the digit c lie the zeros of f(c + p·y)
 pub zeros-branch : (f : List ℕ) (p n c : ℕ) → branch (zeros f p n) p c ≡ zeros (shifted c p f) p n
-unfolding zeros
-zeros-branch f p n c = fun-ext (λ y. ap (divides (p ^ n)) (sym (value-shifted c p f y)))
+zeros-branch f p n c = zeros-shifted f p n c p
+
+-- inside a/t lie the zeros of f(a + p^t·y)
+pub zeros-branch-at : (f : List ℕ) (p n : ℕ) (c : Class) → branchAt (zeros f p n) p c ≡ zeros (shifted (c .residue) (p ^ (c .level)) f) p n
+zeros-branch-at f p n c = zeros-shifted f p n (c .residue) (p ^ (c .level))
 
 -- where p^v divides every coefficient: the zeros modulo p^(v + e) are those of the quotient modulo p^e
 pub zeros-divided : (f : List ℕ) (p v e : ℕ) → 0 < p → ((i : ℕ) → p ^ v ∣ coef f i) → zeros f p (v + e) ≡ zeros (divided (p ^ v) f) p e

@@ -1,21 +1,23 @@
 -- Classes with residues of least size and 01's classes are the same classes: `signed` and `natural` undo each other.
 use mathlib.Core.Path.{_≡_, refl, ap₂, _∙_}
 use mathlib.Core.Logic.{_↔_}
+use mathlib.Core.Bool.{true}
 use mathlib.Core.List.{List, map}
 use Prim.Native.Nat.{ℕ, _%_, _^_, _≤_, _<_, min}
-use native.Mathlib.Nat.{min-le-left, min-le-right}
+use native.Mathlib.Nat.{min-le-left, min-le-right, pow-le-pow-right}
 use lib.Dec.{eqb}
 use lib.IntN.{ℤ, pos, _-ℤ_}
 use Rattle.theory.specs.Lists.{In}
 use Rattle.theory.specs.Polynomial.{reduce, Multiple}
 use Rattle.theory.specs.Class.{Class, IsClass, Member, share}
+use Rattle.theory.specs.Centered.{isCentered}
 use Rattle.theory.specs.SignedClass.{SignedClass, signedClass, IsSignedClass, signed, natural, naturals, levelsOf}
 use Rattle.theory.proofs.Lists.Map.{map-map, map-kept}
 use Rattle.theory.proofs.Numbers.Power.{pow-pos, pow-dvd}
 use Rattle.theory.proofs.Numbers.Reduction.{reduce-lt, reduce-down, congruent-multiple, multiple-congruent}
 use Rattle.theory.proofs.Classes.Equal.{class-equal}
 use Rattle.theory.proofs.Classes.Sum.{levels}
-use Rattle.theory.proofs.Signed.Centered.{reduce-centered, centered-range, centered-reduce}
+use Rattle.theory.proofs.Signed.Centered.{range-wider, reduce-centered, centered-range, centered-reduce}
 
 pub signed-equal : {a b : ℤ} {t u : ℕ} → a ≡ b → t ≡ u → signedClass a t ≡ signedClass b u
 signed-equal e f = λ i. signedClass (e i) (f i)
@@ -36,6 +38,11 @@ module _ (p n : ℕ) (hp : 0 < p) where
   pub signed-class : (c : Class) → IsClass p n c → IsSignedClass p n (signed p c)
   unfolding signed
   signed-class c k = record { level-fits = k .level-fits; residue-fits = centered-range (p ^ (c .level)) (c .residue) (k .residue-fits) }
+
+  -- the residue of a class is in the range of pⁿ too
+  pub class-wide : (c : SignedClass) → IsSignedClass p n c → isCentered (p ^ n) (c .residue) ≡ true
+  class-wide c k =
+      range-wider (p ^ (c .level)) (p ^ n) (pow-le-pow-right hp (k .level-fits)) (c .residue) (k .residue-fits)
 
   pub signed-natural : (c : SignedClass) → IsSignedClass p n c → signed p (natural p c) ≡ c
   unfolding signed natural

@@ -1,7 +1,7 @@
 -- The third demand for the list with residues of least size.
 use mathlib.Core.Path.{_≡_, sym, ap, _∙_}
 use mathlib.Core.Bool.{Bool}
-use mathlib.Core.List.{List, map, Permᴰ·map}
+use mathlib.Core.List.{List, Permᴰ·map}
 use Prim.Native.Nat.{ℕ, _≤_, _<_}
 use native.Mathlib.Omega.{arith}
 use lib.IntN.{pos}

@@ -1,9 +1,8 @@
 -- The list with residues of least size: its entries, their member numbers, and what determines it.
 use mathlib.Core.Path.{_≡_, refl, sym, ap, _∙_}
-use mathlib.Core.Bool.{Bool, true}
+use mathlib.Core.Bool.{Bool}
 use mathlib.Core.List.{List, [], _∷_, map, Permᴰ·map}
 use Prim.Native.Nat.{ℕ, _^_, _≤_, _<_}
-use native.Mathlib.Nat.{pow-le-pow-right}
 use native.Mathlib.Omega.{arith}
 use lib.IntN.{pos}
 use lib.ListN.{length, length-map}
@@ -11,7 +10,7 @@ use Rattle.theory.specs.Lists.{In, Permutation}
 use Rattle.theory.specs.Class.{Class, class}
 use Rattle.theory.specs.ClassList.{memberTotal}
 use Rattle.theory.specs.Shortest.{shortest, count, Maximal}
-use Rattle.theory.specs.Centered.{isCentered, centered}
+use Rattle.theory.specs.Centered.{centered}
 use Rattle.theory.specs.SignedClass.{SignedClass, signedClass, IsSignedClass, signed, natural, naturals, levelsOf}
 use Rattle.theory.specs.SignedList.{signedList}
 use Rattle.theory.specs.inner.Tree.{tree}
@@ -24,7 +23,7 @@ use Rattle.theory.proofs.Classes.Cover.{listed}
 use Rattle.theory.proofs.Classes.Entries.{maximal-listed, listed-maximal}
 use Rattle.theory.proofs.Classes.Sum.{shortest-total}
 use Rattle.theory.proofs.Classes.Tree.{tree-perm}
-use Rattle.theory.proofs.Signed.Centered.{range-wider, centered-low}
+use Rattle.theory.proofs.Signed.Centered.{centered-low}
 use Rattle.theory.proofs.Signed.Classes.{natural-levels, signed-class, natural-signed, signed-natural}
 use Rattle.theory.proofs.Signed.List.{SignedEarlier, signed-earlier-strict, signed-rising, list-shortest}
 use Rattle.theory.proofs.Signed.List.{shortest-list, natural-shortest, signed-permutation}
@@ -44,11 +43,6 @@ module _ (S : ℕ → Bool) (p n : ℕ) (hp : 0 < p) where
     -- each is a class of 02
     pub list-class : IsSignedClass p n c
     list-class = let (d, v, e) = source in rw e (signed-class p n hp d (listed S p n hp d v .is-class))
-
-    -- so its residue is in the range of pⁿ too
-    pub list-wide : isCentered (p ^ n) (c .residue) ≡ true
-    list-wide =
-        range-wider (p ^ (c .level)) (p ^ n) (pow-le-pow-right hp (list-class .level-fits)) (c .residue) (list-class .residue-fits)
 
     -- whole, and in no larger whole class
     pub list-maximal : Maximal S p n (natural p c)

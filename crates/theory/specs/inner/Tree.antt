@@ -10,6 +10,11 @@ unfoldable pub concatBelow : (ℕ → List Class) → ℕ → List Class
 concatBelow f zero = []
 concatBelow f (suc k) = concatBelow f k ++ f k
 
+-- the lists of the entries, one after the other
+unfoldable pub flat : {A : Type 0} → (A → List Class) → List A → List Class
+flat f [] = []
+flat f (x ∷ l) = f x ++ flat f l
+
 -- the residues y with c + p·y in S: what lies below the digit c
 abbrev pub branch : (ℕ → Bool) → ℕ → ℕ → ℕ → Bool
 branch S p c y = S (c + p * y)

@@ -39,9 +39,9 @@ module _ (c : tie.After-power) where
   power-is : c .power .result ≡ call .args .p ^ t
   power-is = saturated-power positive (c .before .before .if1 .left) (call .pre .3) (c .power .ensures)
 
-is-centered-requires : tie.Need-is-centered-requires
-is-centered-requires c κs =
-    rw (power-is c) (level-power (positive c) (c .before .before .if1 .left) (call c .pre .3))
+cast-is-centered : tie.Need-cast-is-centered
+cast-is-centered c =
+    record { fits = rw (power-is c) (omega (arith, level-power (positive c) (c .before .before .if1 .left) (call c .pre .3))) }
 
 -- whether the residue is in range
 centered-is : (c : tie.After-is-centered) → c .is-centered .result ≡ isCentered (call (c .before) .args .p ^ t (c .before)) (z (c .before))
@@ -81,5 +81,5 @@ pub unusable-spec : {M : Type 1} → statement M
 unusable-spec =
     tie.close
     (tie.spec (λ c. search needs) (λ c. record { fits = omega (arith, c .shared-slice-known2 .given (c .before .before .args .i)) }) returns
-    (λ c. search needs) (λ c. search needs) (λ c κs. search needs) is-centered-requires returns-2 returns-3 (λ c. search needs)
+    (λ c. search needs) (λ c. search needs) (λ c κs. search needs) cast-is-centered (λ c κs. search needs) returns-2 returns-3 (λ c. search needs)
     (λ c. search needs) (λ c. search needs) (λ c. search needs) (λ c. search needs) returns-4)

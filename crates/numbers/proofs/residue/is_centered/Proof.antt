@@ -1,4 +1,4 @@
--- `classes::usable::is_centered` meets its contract.
+-- `numbers::residue::is_centered` meets its contract.
 use mathlib.Core.Path.{_≡_, sym, ap, ap₂, _∙_}
 use mathlib.Core.Bool.{true, false}
 use Prim.Native.Nat.{ℕ, _*_}
@@ -12,9 +12,9 @@ use mir.ValLaws.{toZ-pos, toZ-ofZ}
 use Rattle.theory.specs.Centered.{isCentered}
 use Rattle.theory.proofs.Numbers.Integers.{up, down, is-unique, sum-is, negative-is, product-is}
 use Rattle.theory.proofs.Numbers.Integers.{at-most-is, not-at-most-is, is-less, is-not-less}
 use Rattle.numbers.proofs.Words.{difference-fits, wide-fits, wide-read, narrow-parts}
-use Rattle.classes.proofs.usable.is_centered.Statement.{statement}
-use Rattle.classes.proofs.usable.is_centered.Tie as tie
+use Rattle.numbers.proofs.residue.is_centered.Statement.{statement}
+use Rattle.numbers.proofs.residue.is_centered.Tie as tie
 
 -- 2z and −q as the words are read
 module _ (a : tie.Start) where
@@ -49,11 +49,11 @@ module _ (a : tie.Start) where
   negated-is : negated ≡ low
   unfolding up down
   negated-is =
-      ap (λ (x : ℤ). pos 0 -ℤ x) (toZ-pos w64 q (omega (arith, a .pre)))
+      ap (λ (x : ℤ). pos 0 -ℤ x) (toZ-pos w64 q (omega (arith, a .fits .q)))
       ∙ is-unique (pos 0 -ℤ pos q) low 0 q (omega (arith, sum-is (pos 0) low, negative-is q)) (negative-is q)
 
   negated-fits : SFits w64 negated
-  negated-fits = rw negated-is (difference-fits low 0 q (negative-is q) (omega arith) (omega (arith, a .pre)))
+  negated-fits = rw negated-is (difference-fits low 0 q (negative-is q) (omega arith) (omega (arith, a .fits .q)))
 
   read-doubled : toZ w64 (ofZ w64 doubled) ≡ twice
   read-doubled = toZ-ofZ w64 doubled doubled-fits ∙ doubled-is
@@ -77,7 +77,7 @@ unfolding isCentered
 returns-2 c =
     let a = c .before in
     let h : leZ (twice a) (low a) ≡ false = sym (tested a) ∙ c .if1 .left in
-    rw (read-doubled a, toZ-pos w64 (q a) (omega (arith, a .pre)), is-less (low a) (twice a) (not-at-most-is (twice a) (low a) h))
+    rw (read-doubled a, toZ-pos w64 (q a) (omega (arith, a .fits .q)), is-less (low a) (twice a) (not-at-most-is (twice a) (low a) h))
 
 pub is-centered-spec : {M : Type 1} → statement M
 is-centered-spec =
