@@ -3,24 +3,20 @@
 use mathlib.Core.Path.{_≡_, sym, ap, _∙_}
 use mathlib.Core.Bool.{Bool}
 use mathlib.Core.List.{List}
-use Prim.Native.Nat.{ℕ, suc, _*_, _%_, _^_, _≤_, _<_, _∣_, min}
-use native.Mathlib.Decide.{decLt, decLe}
-use native.Mathlib.Nat.{dvd-zero, dvd-mul-right-of-dvd}
+use Prim.Native.Nat.{ℕ, suc, _^_, _<_, min}
+use native.Mathlib.Nat.{dvd-refl}
 use native.Mathlib.Omega.{arith}
-use lib.ListN.{length, List·getD-eq-default}
+use lib.ListN.{length}
 use Rattle.theory.specs.Polynomial.{zeros}
 use Rattle.theory.specs.Shortest.{count}
 use Rattle.theory.specs.Live.{liveOf}
 use Rattle.theory.specs.inner.Tree.{branch}
 use Rattle.theory.specs.Taylor.{taylor, shifted}
-use Rattle.theory.specs.inner.Polynomial.{coef}
 use Rattle.theory.proofs.Numbers.Power.{pow-pos, pow-dvd}
 use Rattle.theory.proofs.Numbers.Prime.{prime-pos}
-use Rattle.theory.proofs.Numbers.Congruence.{Congruent, cong-sym, cong-trans, cong-of-eq, cong-mod, cong-down, dvd-cong}
-use Rattle.theory.proofs.Polynomials.Arithmetic.{coef-stretch}
+use Rattle.theory.proofs.Numbers.Congruence.{cong-down}
 use Rattle.theory.proofs.Polynomials.Congruence.{SameModulo, zeros-same}
 use Rattle.theory.proofs.Polynomials.Orders.{AtMostOrder}
-use Rattle.theory.proofs.Polynomials.Taylor.{taylor-beyond}
 use Rattle.theory.proofs.Polynomials.Zeros.{zeros-branch}
 use Rattle.theory.proofs.Live.Carried.{live-same}
 use Rattle.solver.specs.declared.tree.PrimePower.{PrimePower}
@@ -28,7 +24,8 @@ use Rattle.solver.specs.declared.tree.Node.{Node}
 use Rattle.solver.specs.inner.Table.{Residues}
 use Rattle.solver.specs.inner.Counts.{zerosAt}
 use Rattle.solver.specs.inner.Recursion.{IsPrimePower, Primitive, AtNode, childAt, mostClasses}
-use Rattle.solver.proofs.Tables.{residues-below}
+use Rattle.solver.proofs.Tables.{residues-below, residues-same}
+use Rattle.solver.proofs.Shift.{shifted-beyond}
 use Rattle.solver.proofs.Most.{most-order}
 use Rattle.solver.proofs.Node.{child-node}
 
@@ -46,24 +43,8 @@ module _ {f : List ℕ} {M : PrimePower} {x : Node} (P : Primitive f M x) (c : �
   abbrev I : IsPrimePower M
   I = P .at .modulus
 
-  -- past the last coefficient of g, p^e divides p^i or the coefficient is 0
-  beyond : (i : ℕ) → ¬ (i < length g) → p ^ e ∣ coef (shifted c p f) i
-  beyond i h = rw (coef-stretch p (taylor c f) i) (go (decLe e i))
-    where
-      go : Dec (e ≤ i) → p ^ e ∣ p ^ i * coef (taylor c f) i
-      go (yes u) = dvd-mul-right-of-dvd (p ^ e) (pow-dvd p u) (coef (taylor c f) i)
-      go (no u) =
-          let none : p ^ i * coef (taylor c f) i ≡ 0 = rw (taylor-beyond c f i (omega arith)) (omega arith) in
-          rw none (dvd-zero (p ^ e))
-
   same : SameModulo (p ^ e) g (shifted c p f)
-  same i = go (decLt i (length g))
-    where
-      go : Dec (i < length g) → Congruent (p ^ e) (coef g i) (coef (shifted c p f) i)
-      go (yes h) =
-          cong-trans (cong-of-eq (r .at i h ∙ ap (λ (m : ℕ). coef (shifted c p f) i % m) (I .power-is)))
-          (cong-mod (p ^ e) (coef (shifted c p f) i))
-      go (no h) = cong-trans (cong-of-eq (List·getD-eq-default g 0 {n = i} (omega arith))) (cong-sym (dvd-cong (beyond i h)))
+  same = residues-same (rw (I .power-is) at r) (λ i h. shifted-beyond p e c p f (dvd-refl p) i (omega (arith, long)))
 
   pub child-zeros : zeros g (M .p) (M .exponent) ≡ branch (zeros f (M .p) (M .exponent)) (M .p) c
   child-zeros = zeros-same g (shifted c p f) p e same ∙ sym (zeros-branch f p e c)

@@ -10,6 +10,7 @@ mod Linear
 mod FiniteDifferences
 mod Biased
 mod Codes
+mod Joining
 mod Appended
 mod Node
 mod Most
@@ -20,8 +21,12 @@ mod Added
 mod ZeroCounts
 mod Scanning
 mod Top
+mod Starting
 mod Coefficients
+mod Among
 mod Verdicts
+mod RaiseRules
+mod RaiseAnswers
 pub mod Examples
 pub mod Testing
 pub mod Walking

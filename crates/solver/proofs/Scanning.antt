@@ -12,12 +12,12 @@ use Rattle.theory.specs.Polynomial.{vanishes, zeros}
 use Rattle.theory.specs.Degree.{every}
 use Rattle.theory.specs.Class.{Class}
 use Rattle.theory.specs.SignedClass.{signed}
-use Rattle.theory.specs.inner.Tree.{tree, branch, deeper}
+use Rattle.theory.specs.inner.Tree.{tree, flat, branch, deeper}
 use Rattle.theory.specs.Taylor.{taylor}
 use Rattle.theory.proofs.Tests.{contradiction}
 use Rattle.theory.proofs.Numbers.Prime.{prime-pos}
 use Rattle.theory.proofs.Lists.Map.{map-append, map-map, map-same}
-use Rattle.theory.proofs.Classes.Concat.{flat, flat-next}
+use Rattle.theory.proofs.Classes.Concat.{flat-next}
 use Rattle.theory.proofs.Classes.Tree.{below}
 use Rattle.theory.proofs.Classes.Branch.{concat-digits, tree-digits, whole-digits}
 use Rattle.theory.proofs.Polynomials.Bound.{before-digit}

@@ -5,13 +5,13 @@ use Prim.Native.Nat.{ℕ, _≤_}
 use native.Mathlib.Nat.{pow-zero, zero-add}
 use native.Mathlib.Omega.{arith}
 use lib.ListN.{length, length-map, take, drop}
-use lib.Seq.{take-at}
 use Rattle.theory.specs.Polynomial.{zeros}
 use Rattle.theory.specs.Class.{Class}
 use Rattle.theory.specs.SignedClass.{signed}
 use Rattle.theory.specs.inner.Tree.{tree}
 use Rattle.theory.proofs.Lists.Map.{map-map, map-same}
 use Rattle.theory.proofs.Classes.Equal.{class-equal}
+use Rattle.theory.proofs.Signed.Entries.{tree-signed}
 use Rattle.numbers.specs.inner.Usable.{Usable}
 use Rattle.solver.specs.declared.tree.PrimePower.{PrimePower}
 use Rattle.solver.specs.declared.tree.Node.{Node}
@@ -21,7 +21,7 @@ use Rattle.solver.specs.inner.Code.{code}
 use Rattle.solver.specs.inner.Sort.{sorted}
 use Rattle.solver.specs.inner.Recursion.{AtNode, Done, mostClasses, within, codesWithin}
 use Rattle.solver.specs.inner.Reduced.{zeroClasses}
-use Rattle.solver.proofs.Codes.{same-number, sorted-codes}
+use Rattle.solver.proofs.Codes.{sorted-front}
 use Rattle.solver.proofs.Most.{most-length, tree-most}
 
 -- the modulus pⁿ
@@ -75,6 +75,4 @@ module _ {w : List ℕ} {p n m : ℕ} (U : Usable p n m) (short : length w ≤ 6
         → take (r .k) out″ ≡ map code (zeroClasses w p n)
     top-sorted s =
         let S = zeros w p n in
-        let front = ap sorted codes ∙ sorted-codes S U in
-        ap (take (r .k)) (s ∙ ap (λ (l : List ℕ). l ++ drop (r .k) out′) front)
-        ∙ take-at (map code (zeroClasses w p n)) (drop (r .k) out′) (r .k) (sym (number ∙ same-number S U))
+        sorted-front S U (map (signed p) (tree S p n)) (tree-signed S p n (U .prime .two)) (r .k) out′ codes number s

@@ -8,3 +8,4 @@ pub mod Reduced
 pub mod UsablePolynomial
 pub mod Points
 pub mod Counts
+pub mod Raise

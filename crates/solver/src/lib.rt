@@ -11,17 +11,23 @@ use refusal::Refusal;
 mod code;
 mod differences;
 mod digits;
+mod join;
 mod lists;
 mod mark;
 mod points;
 mod polynomial;
+mod raise;
 mod reduce;
 mod solution;
 mod sort;
+mod start;
 mod taylor;
 mod tree;
 mod valuation;
 mod zero_counts;
+
+pub use raise::Raised;
+pub use raise::raise_precision;
 
 // Rules 2, 3, 4, 14 and 5: pⁿ, or the refusal.
 fn check_polynomial(coefficients: &[i64], p: u32, n: u32) -> Modulus

@@ -11,7 +11,6 @@ ghost use Rattle.solver.specs.inner.Code.{code};
 ghost use Rattle.solver.specs.inner.Reduced.{zeroClasses, reducedSolved, reducedLists};
 use crate::Solved;
 use crate::lists;
-use crate::mark;
 use crate::sort;
 use crate::tree;
 use crate::tree::Node;
@@ -72,13 +71,10 @@ pub(crate) fn solve_reduced(
     if slots < k {
         return Solved::Refused(Refusal::TooFewSlots(k));
     }
-    let classes = &codes[..k];
-    lists::write_residues(classes, residues);
-    lists::write_levels(classes, levels);
-    mark::write_marks(&row[..c], p as u64, classes, marks);
+    let roots = lists::fill(&row[..c], p, n, &codes[..k], residues, levels, marks);
     Solved::Found {
         classes: k,
-        roots: numbers::member_total(p, n, &levels[..k]),
+        roots,
         live: settled.live,
     }
 }

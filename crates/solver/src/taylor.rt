@@ -1,4 +1,4 @@
-// The Taylor shift h(c + p·y) modulo m, its first coefficients: where m divides p^k, those from index k on vanish.
+// The Taylor shift h(c + q·y) modulo m, its first coefficients: where m divides q^k, those from index k on vanish.
 ghost use mathlib.Core.Path.{_≡_};
 ghost use mathlib.Core.List.{_∷_};
 ghost use Prim.Native.Nat.{ℕ, _+_, _*_, _%_, _^_, _≤_, _<_};
@@ -10,7 +10,7 @@ ghost use Rattle.solver.specs.inner.Table.{Residues};
 
 // a + (c + y)·g(y), its first `top` coefficients: one step of Horner's rule on polynomials.
 fn horner_step(g: &mut [u32], top: usize, a: u64, c: u64, m: u64)
-    requires { ⌜ (0 < top) × (top ≤ length (now g)) × (0 < m) × (m ≤ 4294967295) × (a < 4294967296) × (c < 65536) ⌝ }
+    requires { ⌜ (0 < top) × (top ≤ length (now g)) × (0 < m) × (m ≤ 4294967295) × (a < 4294967296) × (c < 4294967296) ⌝ }
     ensures { λ _. ⌜ Overwritten (λ i. (coef (a ∷ now (g .entry)) i + c * coef (now (g .entry)) i) % m) 0 top
         (now (g .entry)) (now (g .exit)) ⌝ }
 {
@@ -24,7 +24,7 @@ fn horner_step(g: &mut [u32], top: usize, a: u64, c: u64, m: u64)
 
 // h(c + y) into g, which holds zeros. With k coefficients of h done there are k coefficients, so the next step makes at most k + 1.
 fn taylor(h: &[u32], c: u64, m: u64, g: &mut [u32])
-    requires { ⌜ (0 < length (now g)) × (0 < m) × (m ≤ 4294967295) × (c < 65536) × ((i : ℕ) → getD (now g) i 0 ≡ 0) ⌝ }
+    requires { ⌜ (0 < length (now g)) × (0 < m) × (m ≤ 4294967295) × (c < 4294967296) × ((i : ℕ) → getD (now g) i 0 ≡ 0) ⌝ }
     ensures { λ _. ⌜ Residues m (now (g .exit)) (taylorOf c (now (h .entry))) ⌝ }
 {
     let mut j = h.len();
@@ -35,26 +35,26 @@ fn taylor(h: &[u32], c: u64, m: u64, g: &mut [u32])
     }
 }
 
-// g(p·y)
-fn stretch(g: &mut [u32], p: u64, m: u64)
-    requires { ⌜ (0 < m) × (m ≤ 4294967295) × (p < 65536) ⌝ }
-    ensures { λ _. ⌜ Overwritten (λ i. p ^ i * coef (now (g .entry)) i % m) 0 (length (now (g .entry))) (now (g .entry)) (now (g .exit)) ⌝ }
+// g(q·y)
+fn stretch(g: &mut [u32], q: u64, m: u64)
+    requires { ⌜ (0 < m) × (m ≤ 4294967295) × (q < 4294967296) ⌝ }
+    ensures { λ _. ⌜ Overwritten (λ i. q ^ i * coef (now (g .entry)) i % m) 0 (length (now (g .entry))) (now (g .entry)) (now (g .exit)) ⌝ }
 {
     let mut power: u64 = 1;
     let mut i: usize = 0;
     while i < g.len() {
         g[i] = (g[i] as u64 * power % m) as u32;
-        power = power * p % m;
+        power = power * q % m;
         i += 1;
     }
 }
 
-// h(c + p·y) into g, which holds zeros.
-pub(crate) fn shift(h: &[u32], c: u64, p: u64, m: u64, g: &mut [u32])
-    requires { ⌜ (0 < length (now g)) × (0 < m) × (m ≤ 4294967295) × (c < 65536) × (p < 65536)
+// h(c + q·y) into g, which holds zeros.
+pub(crate) fn shift(h: &[u32], c: u64, q: u64, m: u64, g: &mut [u32])
+    requires { ⌜ (0 < length (now g)) × (0 < m) × (m ≤ 4294967295) × (c < 4294967296) × (q < 4294967296)
         × ((i : ℕ) → getD (now g) i 0 ≡ 0) ⌝ }
-    ensures { λ _. ⌜ Residues m (now (g .exit)) (shiftedOf c p (now (h .entry))) ⌝ }
+    ensures { λ _. ⌜ Residues m (now (g .exit)) (shiftedOf c q (now (h .entry))) ⌝ }
 {
     taylor(h, c, m, g);
-    stretch(g, p, m);
+    stretch(g, q, m);
 }

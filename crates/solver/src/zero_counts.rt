@@ -1,7 +1,6 @@
 // The number of zeros modulo every power of p, by one walk of the tree of digits. A row of e counts belongs to a polynomial modulo p^e:
 // entry i is for p^(i + 1). The numbers counted are those below pⁿ, whatever the power, so that a class adds the same to each entry that
 // it adds to.
-ghost use mathlib.Core.Path.{_≡_};
 ghost use Prim.Native.Nat.{ℕ, suc, _≤_, _<_};
 ghost use lib.ListN.{length, take};
 ghost use Rattle.theory.specs.Polynomial.{zeros as zerosOf};

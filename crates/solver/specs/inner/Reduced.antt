@@ -1,6 +1,6 @@
 -- The solver once the coefficients are reduced modulo pⁿ: what it answers and writes for a list w of residues.
 use mathlib.Core.List.{List, map}
-use Prim.Native.Nat.{ℕ}
+use Prim.Native.Nat.{ℕ, _^_, _≤_, _<_}
 use lib.ListN.{length}
 use Rattle.theory.specs.Polynomial.{zeros}
 use Rattle.theory.specs.SignedClass.{SignedClass, natural}
@@ -9,8 +9,15 @@ use Rattle.theory.specs.Shortest.{count}
 use Rattle.theory.specs.Mark.{markOf}
 use Rattle.theory.specs.Live.{liveOf}
 use Rattle.refusal.specs.Rules.{Verdict, tried}
+use Rattle.numbers.specs.inner.Usable.{Usable}
 use Rattle.solver.specs.declared.Solved.{Solved}
 use Rattle.solver.specs.Solve.{Lists, listRules, listsFilled, foundOr}
+
+-- coefficients to be used modulo pⁿ
+pub record UsableCoefficients (w : List ℕ) (p n : ℕ) : Type 0 where
+  pub modulus : Usable p n (p ^ n)
+  pub some : 0 < length w
+  pub few : length w ≤ 65
 
 -- the classes of the zeros modulo pⁿ
 abbrev pub zeroClasses : List ℕ → ℕ → ℕ → List SignedClass
