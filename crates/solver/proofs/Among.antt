@@ -15,8 +15,6 @@ use Rattle.theory.specs.SignedList.{signedList}
 use Rattle.theory.specs.inner.Started.{started}
 use Rattle.theory.specs.inner.Join.{joined}
 use Rattle.theory.proofs.Lists.Map.{in-map, map-map}
-use Rattle.theory.proofs.Lists.Permutation.{perm-length}
-use Rattle.theory.proofs.Classes.Tree.{tree-perm}
 use Rattle.theory.proofs.Classes.Apart.{Apart}
 use Rattle.theory.proofs.Classes.Started.{started-apart, started-members, started-length}
 use Rattle.theory.proofs.Signed.Classes.{signed-class, all-natural-signed}
@@ -29,8 +27,7 @@ use Rattle.classes.proofs.Faults.{faultless-apart}
 use Rattle.solver.specs.inner.Table.{Below}
 use Rattle.solver.specs.inner.Code.{code, classOf, ResiduesFit}
 use Rattle.solver.specs.inner.Raise.{GivenClasses, codesOf, classesAmong, zerosAmong}
-use Rattle.solver.proofs.Most.{tree-most}
-use Rattle.solver.proofs.Top.{top-most}
+use Rattle.solver.proofs.Top.{zeros-few}
 use Rattle.solver.proofs.Codes.{classes-back, residues-fit}
 
 module _ {w : List ℕ} {p n m : ℕ} (U : Usable p n m) (short : length w ≤ 65) (b : Below m w) {residues : List ℤ} {levels : List ℕ}
@@ -66,9 +63,7 @@ module _ {w : List ℕ} {p n m : ℕ} (U : Usable p n m) (short : length w ≤ 6
       omega (
         arith,
         started-length S p n two (naturals p L) apart,
-        perm-length (tree-perm p hp two S n),
-        tree-most p (U .prime) w n n (rw (← U .power) b),
-        top-most U short b,
+        zeros-few U short b,
         lent-length p residues levels (given .same-length),
         given .few,
       )

@@ -35,3 +35,4 @@ pub mod Passed
 pub mod Callers
 pub mod ManyPoints
 pub mod Answered
+pub mod Fresh

@@ -7,10 +7,14 @@ use native.Mathlib.Omega.{arith}
 use lib.ListN.{length, length-map, take, drop}
 use Rattle.theory.specs.Polynomial.{zeros}
 use Rattle.theory.specs.Class.{Class}
+use Rattle.theory.specs.Shortest.{shortest}
 use Rattle.theory.specs.SignedClass.{signed}
 use Rattle.theory.specs.inner.Tree.{tree}
 use Rattle.theory.proofs.Lists.Map.{map-map, map-same}
+use Rattle.theory.proofs.Lists.Permutation.{perm-length}
+use Rattle.theory.proofs.Numbers.Prime.{prime-pos}
 use Rattle.theory.proofs.Classes.Equal.{class-equal}
+use Rattle.theory.proofs.Classes.Tree.{tree-perm}
 use Rattle.theory.proofs.Signed.Entries.{tree-signed}
 use Rattle.numbers.specs.inner.Usable.{Usable}
 use Rattle.solver.specs.declared.tree.PrimePower.{PrimePower}
@@ -51,6 +55,16 @@ module _ {w : List ℕ} {p n m : ℕ} (U : Usable p n m) (short : length w ≤ 6
 
   pub top-most : mostClasses p w ≤ 64
   top-most = most-length p (U .prime) w 64 (omega arith) short
+
+  -- so the zeros' list has at most 64 classes
+  pub zeros-few : length (shortest (zeros w p n) p n) ≤ 64
+  zeros-few =
+      omega (
+        arith,
+        perm-length (tree-perm p (prime-pos (U .prime)) (U .prime .two) (zeros w p n) n),
+        tree-most p (U .prime) w n n (rw (← U .power) b),
+        top-most,
+      )
 
   module _ {r : Settled} {out out′ : List ℕ} (d : Done (zeros w p n) p (everything n) 0 r out out′) where
     codes : take (r .k) out′ ≡ map code (map (signed p) (tree (zeros w p n) p n))

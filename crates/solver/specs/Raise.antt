@@ -13,6 +13,8 @@ use Rattle.theory.specs.Mark.{mark}
 use Rattle.refusal.specs.Rules.{Verdict, passes, refuses, tried, rule6, rule6Three, rule11, rule17}
 use Rattle.numbers.specs.Modulus.{rule5}
 use Rattle.classes.specs.Rule7.{classesOf, rule7}
+use Rattle.solver.specs.declared.Solved.{Solved}
+use Rattle.solver.specs.declared.Solved.the-variants as solved
 use Rattle.solver.specs.declared.raise.Raised.{Raised}
 use Rattle.solver.specs.declared.raise.Raised.the-variants.{Found, Refused}
 use Rattle.solver.specs.Solve.{Lists, polynomialRules, listsFilled}
@@ -50,6 +52,12 @@ raiseVerdict f p n m residues levels lent =
 abbrev pub raisedOr : Verdict → ℕ → ℕ → Raised
 raisedOr passes k roots = Found k roots
 raisedOr (refuses r) k roots = Refused r
+
+-- the solver's answer in these terms, without the number of live classes: "If the given list is that of f at n, result and count equal the
+-- fresh ones at m"
+abbrev pub withoutLive : Solved → Raised
+withoutLive (solved.Found k roots live) = Found k roots
+withoutLive (solved.Refused r) = Refused r
 
 -- what a call answers
 unfoldable pub raisedOf : List ℤ → ℕ → (n m : ℕ) → List ℤ → List ℕ → Lists → Raised
