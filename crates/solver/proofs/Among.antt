@@ -20,13 +20,14 @@ use Rattle.theory.proofs.Classes.Started.{started-apart, started-members, start
 use Rattle.theory.proofs.Signed.Classes.{signed-class, all-natural-signed}
 use Rattle.theory.proofs.Signed.Entries.{signed-agree}
 use Rattle.theory.proofs.Signed.Join.{joined-permutation}
+use Rattle.theory.proofs.Signed.Few.{few-stay}
 use Rattle.numbers.specs.inner.Usable.{Usable}
 use Rattle.classes.specs.Rule7.{classesOf}
 use Rattle.classes.proofs.Entries.{lent-length}
 use Rattle.classes.proofs.Faults.{faultless-apart}
 use Rattle.solver.specs.inner.Table.{Below}
 use Rattle.solver.specs.inner.Code.{code, classOf, ResiduesFit}
-use Rattle.solver.specs.inner.Raise.{GivenClasses, codesOf, classesAmong, zerosAmong}
+use Rattle.solver.specs.inner.Raise.{GivenClasses, FewStay, codesOf, classesAmong, zerosAmong}
 use Rattle.solver.proofs.Top.{zeros-few}
 use Rattle.solver.proofs.Codes.{classes-back, residues-fit}
 
@@ -82,10 +83,15 @@ module _ {w : List ℕ} {p n m : ℕ} (U : Usable p n m) (short : length w ≤ 6
   pub found-back : map classOf (codesOf p foundClasses) ≡ signedClasses
   found-back = ap (map classOf) found-codes ∙ classes-back U signedClasses found-classes
 
+  back : naturals p signedClasses ≡ foundClasses
+  back = all-natural-signed p n hp foundClasses (found-apart .classes)
+
+  pub found-stay : FewStay p n signedClasses
+  found-stay = record { stays = few-stay p n hp signedClasses (rw back found-apart) }
+
   -- joined, they are the list
   pub found-joined : Permutation (joined p n signedClasses) (classesAmong w p n (classesOf residues levels))
   found-joined =
-      let back : naturals p signedClasses ≡ foundClasses = all-natural-signed p n hp foundClasses (found-apart .classes) in
       let same : signedList (members p (naturals p signedClasses)) p n ≡ classesAmong w p n L =
       ap (λ (N : List Class). signedList (members p N) p n) back
       ∙ signed-agree (members p foundClasses) (zerosAmong w p n L) p n hp (started-members S p n two (naturals p L) apart) in

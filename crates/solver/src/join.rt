@@ -2,10 +2,11 @@
 // up to its own, it takes their place.
 ghost use mathlib.Core.Path.{_≡_};
 ghost use mathlib.Core.List.{map};
-ghost use Prim.Native.Nat.{_^_, _≤_};
+ghost use Prim.Native.Nat.{_/_, _%_, _^_, _≤_, _<_};
 ghost use lib.ListN.{length, take};
 ghost use Rattle.theory.specs.inner.Join.{insideTotal, joinedLevel, joined};
 ghost use Rattle.solver.specs.inner.Code.{code as codeOf, classOf, ResiduesFit};
+ghost use Rattle.solver.specs.inner.Raise.{FewStay};
 use crate::code;
 
 // The member numbers modulo pⁿ of the classes that lie in the class of residue a modulo q = p^t, added up.
@@ -25,8 +26,8 @@ fn inside_total(codes: &[u64], p: u32, n: u32, a: u64, q: u64, t: u32) -> u64
     sum
 }
 
-// The level of the largest class around z that takes the place of those inside it.
-fn joined_level(codes: &[u64], p: u32, n: u32, z: i32) -> u32
+// The level of the largest class around z that takes the place of those inside it, by trying each.
+fn search_level(codes: &[u64], p: u32, n: u32, z: i32) -> u32
     requires { ⌜ (2 ≤ p) × (p ^ n ≤ 4294967295) × (length (now codes) ≤ 65536) × ResiduesFit (now codes) ⌝ }
     ensures { λ r. ⌜ r ≡ joinedLevel p n (map classOf (now (codes .entry))) z ⌝ }
 {
@@ -43,10 +44,22 @@ fn joined_level(codes: &[u64], p: u32, n: u32, z: i32) -> u32
     n
 }
 
+// The same for the residue of one of the classes, x. Fewer classes than p fill no larger one.
+fn joined_level(codes: &[u64], p: u32, n: u32, x: u64) -> u32
+    requires { ⌜ (2 ≤ p) × (p ^ n ≤ 4294967295) × (length (now codes) ≤ 65536) × ResiduesFit (now codes) × (x / 256 < 4294967296)
+        × (length (now codes) < p → joinedLevel p n (map classOf (now codes)) (classOf x .residue) ≡ x % 256) ⌝ }
+    ensures { λ r. ⌜ r ≡ joinedLevel p n (map classOf (now (codes .entry))) (classOf x .residue) ⌝ }
+{
+    if codes.len() < p as usize {
+        return (x % 256) as u32;
+    }
+    search_level(codes, p, n, code::residue(x))
+}
+
 // The classes joined, into the first entries of `out`; their number. Each keeps the residue of the one among them that has its residue.
 pub(crate) fn join(codes: &[u64], p: u32, n: u32, out: &mut [u64]) -> usize
     requires { ⌜ (2 ≤ p) × (p ^ n ≤ 4294967295) × (length (now codes) ≤ 65536) × ResiduesFit (now codes)
-        × (length (now codes) ≤ length (now out)) ⌝ }
+        × (length (now codes) ≤ length (now out)) × FewStay p n (map classOf (now codes)) ⌝ }
     ensures { λ r. ⌜ (r ≤ length (now (codes .entry)))
         × (take r (now (out .exit)) ≡ map codeOf (joined p n (map classOf (now (codes .entry))))) ⌝ }
 {
@@ -54,7 +67,7 @@ pub(crate) fn join(codes: &[u64], p: u32, n: u32, out: &mut [u64]) -> usize
     let mut i: usize = 0;
     while i < codes.len() {
         let z = code::residue(codes[i]);
-        let t = joined_level(codes, p, n, z);
+        let t = joined_level(codes, p, n, codes[i]);
         if numbers::is_centered(z, numbers::power(p, t) as u32) {
             out[k] = codes[i] / 256 * 256 + t as u64;
             k += 1;

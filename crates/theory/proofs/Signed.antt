@@ -6,4 +6,5 @@ pub mod Entries
 pub mod Demand
 pub mod AddsUp
 pub mod Join
+pub mod Few
 pub mod Raised

@@ -2,10 +2,11 @@
 use mathlib.Core.Path.{_≡_}
 use mathlib.Core.Bool.{Bool, true, false, _&&_}
 use mathlib.Core.List.{List, [], _∷_, map}
-use Prim.Native.Nat.{ℕ, _-_, _^_, _≤_, min}
+use Prim.Native.Nat.{ℕ, _-_, _^_, _≤_, _<_, min}
 use lib.Dec.{eqb}
 use lib.IntN.{ℤ}
 use lib.ListN.{length}
+use Rattle.theory.specs.Lists.{In}
 use Rattle.theory.specs.Polynomial.{zeros}
 use Rattle.theory.specs.Class.{Class}
 use Rattle.theory.specs.ClassList.{members}
@@ -13,6 +14,7 @@ use Rattle.theory.specs.SignedClass.{SignedClass, signed, natural, naturals}
 use Rattle.theory.specs.SignedList.{signedList}
 use Rattle.theory.specs.Shortest.{count}
 use Rattle.theory.specs.Mark.{markOf}
+use Rattle.theory.specs.inner.Join.{joinedLevel}
 use Rattle.refusal.specs.Rules.{Verdict, tried, rule11, rule17}
 use Rattle.numbers.specs.declared.Modulus.{Modulus}
 use Rattle.numbers.specs.Modulus.{powerOr, rule5}
@@ -38,6 +40,10 @@ pub record GivenClasses (p n : ℕ) (residues : List ℤ) (levels : List ℕ) : 
   pub same-length : length residues ≡ length levels
   pub few : length residues ≤ 64
   pub faultless : Faultless p n (classesOf residues levels)
+
+-- where there are fewer classes than p, joining leaves each at its level
+pub record FewStay (p n : ℕ) (L : List SignedClass) : Type 0 where
+  pub stays : length L < p → (c : SignedClass) → In c L → joinedLevel p n L (c .residue) ≡ c .level
 
 -- the codes of classes
 abbrev pub codesOf : ℕ → List Class → List ℕ

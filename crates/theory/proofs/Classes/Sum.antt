@@ -85,6 +85,13 @@ unfolding memberTotal
 total-least p n hp [] = omega arith
 total-least p n hp (t ∷ ts) = omega (arith, total-least p n hp ts, pow-pos p hp (n - t))
 
+-- and a multiple of that where no class has more members than q
+pub total-most : (p n q : ℕ) (ts : List ℕ) → ((t : ℕ) → In t ts → p ^ (n - t) ≤ q) → memberTotal p n ts ≤ length ts * q
+unfolding memberTotal
+total-most p n q [] h = omega arith
+total-most p n q (t ∷ ts) h =
+    omega (arith, h t (here refl), total-most p n q ts (λ s u. h s (there u)), suc-mul (length ts) q)
+
 -- of one class more
 pub total-next : (p n : ℕ) (ts : List ℕ) (t : ℕ) → memberTotal p n (ts ++ (t ∷ [])) ≡ memberTotal p n ts + p ^ (n - t)
 unfolding memberTotal

@@ -111,7 +111,7 @@ module _ (p n : ℕ) (hp : 0 < p) where
           disjoint = λ c d u v. apart .disjoint c d (kept f c u) (kept f d v);
         }
 
-    level-in : (d : SignedClass) → In d L → d .level ≤ n
+    pub level-in : (d : SignedClass) → In d L → d .level ≤ n
     unfolding natural
     level-in d u = apart .classes (natural p d) (map-in (natural p) L d u) .level-fits
 

@@ -6,13 +6,15 @@ use Prim.Native.Nat.{ℕ, _-_, _*_, _/_, _^_, _≤_, _<_}
 use native.Mathlib.Omega.{arith}
 use borrow.Author.Needs.{needs}
 use lib.IntN.{ℤ}
-use lib.ListN.{length, getD}
+use lib.ListN.{length, length-map, getD}
 use mir.Syntax.{w32}
 use mir.Val.{SFits, toZ, ofZ}
 use mir.ValLaws.{toZ-ofZ}
 use Rattle.theory.specs.Centered.{isCentered}
 use Rattle.theory.specs.SignedClass.{SignedClass}
 use Rattle.theory.specs.inner.Join.{joinedLevel, isFirst}
+use Rattle.theory.proofs.Lists.Index.{in-at}
+use Rattle.theory.proofs.Lists.Map.{map-in}
 use Rattle.theory.proofs.Numbers.Power.{exponent-lt}
 use Rattle.theory.proofs.Signed.AddsUp.{joined-level-le}
 use Rattle.numbers.proofs.Saturated.{level-power, saturated-power}
@@ -66,13 +68,27 @@ read c =
     let f : SFits w32 (c .residue .result) = search needs in
     toZ-ofZ w32 (c .residue .result) f ∙ c .residue .ensures
 
+joined-level-requires : tie.Need-joined-level-requires Inv-loop μ-loop
+joined-level-requires c κs =
+    let k = c .before .before .before in
+    let s = start k in
+    let codes = s .args .codes .now in
+    let listed = map-in classOf codes (x k) (in-at codes (at k .loop .i) 0 (k .loop-test .taken)) in (
+      s .pre .0,
+      s .pre .1,
+      s .pre .2,
+      s .pre .3,
+      x-fits k,
+      (λ few. s .pre .5 .stays (omega (arith, length-map codes classOf)) (classOf (x k)) listed),
+    )
+
 -- its level once joined
 module _ (c : tie.After-joined-level Inv-loop μ-loop) where
   abbrev b : tie.In-loop Inv-loop μ-loop
-  b = c .before .before .before
+  b = c .before .before .before .before
 
   level-is : c .joined-level .result ≡ joinedLevel (p b) (n b) (L b) (z b)
-  level-is = c .joined-level .ensures ∙ ap (joinedLevel (p b) (n b) (L b)) (read (c .before))
+  level-is = c .joined-level .ensures
 
   level-le : c .joined-level .result ≤ n b
   level-le = omega (arith, level-is, joined-level-le (p b) (n b) (L b) (z b))
@@ -97,10 +113,10 @@ unfolding isFirst
 first-is c =
     let k = b (c .before .before) in
     c .is-centered .ensures
-    ∙ ap₂ isCentered (power-is (c .before) ∙ ap (λ (t : ℕ). p k ^ t) (level-is (c .before .before))) (read (c .before .before .before))
+    ∙ ap₂ isCentered (power-is (c .before) ∙ ap (λ (t : ℕ). p k ^ t) (level-is (c .before .before))) (read (c .before .before .before .before))
 
 -- the number to store
-module _ (c : tie.After-shared-slice-known3 Inv-loop μ-loop) where
+module _ (c : tie.After-shared-slice-known4 Inv-loop μ-loop) where
   abbrev j : tie.After-joined-level Inv-loop μ-loop
   j = c .before .before .before .before
 
@@ -129,7 +145,8 @@ pub join-spec : {M : Type 1} → statement M
 join-spec =
     tie.close
     (tie.spec Inv-loop μ-loop (λ c. (omega arith, joining-none _ _ _ _)) (λ c. search needs) (λ c. search needs)
-    (λ c κs. x-fits (c .before)) (λ c κs. search needs) (λ c κs. search needs) cast-is-centered (λ c κs. search needs) (λ c. search needs)
+    (λ c κs. x-fits (c .before)) (λ c. search needs) (λ c. search needs) joined-level-requires (λ c κs. search needs) cast-is-centered
+    (λ c κs. search needs) (λ c. search needs)
     (λ c. search needs) (λ c. record { fits = omega (arith, key-fits c) }) (λ c. search needs)
     (λ c. record { fits = omega (arith, key-fits c, level-small (j c)) }) (λ c. search needs) (λ c. room (b (j c))) (λ c. search needs)
     (λ c. search needs) (λ c. search needs) loop-again (λ c. c .before .loop .inv .1 .long) returns)
