@@ -5,7 +5,7 @@ use mathlib.Core.List.{List, map}
 use Prim.Native.Nat.{ℕ, _≤_, _<_}
 use native.Mathlib.Omega.{arith}
 use lib.IntN.{ℤ}
-use lib.ListN.{length}
+use lib.ListN.{length, length-map}
 use Rattle.theory.specs.Lists.{In, Permutation}
 use Rattle.theory.specs.Polynomial.{zeros}
 use Rattle.theory.specs.Class.{Class}
@@ -15,11 +15,12 @@ use Rattle.theory.specs.SignedList.{signedList}
 use Rattle.theory.specs.inner.Started.{started}
 use Rattle.theory.specs.inner.Join.{joined}
 use Rattle.theory.proofs.Lists.Map.{in-map, map-map}
+use Rattle.theory.proofs.Lists.Permutation.{perm-length}
 use Rattle.theory.proofs.Classes.Apart.{Apart}
 use Rattle.theory.proofs.Classes.Started.{started-apart, started-members, started-length}
 use Rattle.theory.proofs.Signed.Classes.{signed-class, all-natural-signed}
 use Rattle.theory.proofs.Signed.Entries.{signed-agree}
-use Rattle.theory.proofs.Signed.Join.{joined-permutation}
+use Rattle.theory.proofs.Signed.Join.{joined-permutation, joined-length}
 use Rattle.theory.proofs.Signed.Few.{few-stay}
 use Rattle.numbers.specs.inner.Usable.{Usable}
 use Rattle.classes.specs.Rule7.{classesOf}
@@ -96,3 +97,14 @@ module _ {w : List ℕ} {p n m : ℕ} (U : Usable p n m) (short : length w ≤ 6
       ap (λ (N : List Class). signedList (members p N) p n) back
       ∙ signed-agree (members p foundClasses) (zerosAmong w p n L) p n hp (started-members S p n two (naturals p L) apart) in
       rw same at (joined-permutation p n hp signedClasses found-classes (rw back found-apart))
+
+  -- which has at most as many
+  pub among-few : length (classesAmong w p n (classesOf residues levels)) ≤ 128
+  among-few =
+      omega (
+        arith,
+        perm-length found-joined,
+        joined-length p n hp signedClasses found-classes (rw back found-apart),
+        length-map foundClasses (signed p),
+        found-few,
+      )

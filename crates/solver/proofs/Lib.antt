@@ -26,7 +26,7 @@ mod Coefficients
 mod Among
 mod Verdicts
 mod RaiseRules
-mod RaiseAnswers
+pub mod RaiseAnswers
 pub mod Examples
 pub mod Testing
 pub mod Walking

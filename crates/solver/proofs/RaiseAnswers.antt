@@ -1,13 +1,14 @@
 -- What raising a list answers: where all rules but 11 pass, it is the answer on residues.
-use mathlib.Core.Path.{_≡_, refl, ap, _∙_}
+use mathlib.Core.Path.{_≡_, refl, sym, ap, _∙_}
 use mathlib.Core.Bool.{_||_}
-use mathlib.Core.List.{List, [], _∷_}
+use mathlib.Core.List.{List, [], _∷_, map}
 use Prim.Native.Nat.{ℕ, _^_, _≤_, _<_}
+use native.Mathlib.Omega.{arith}
 use borrow.Author.Tests.{ltb-false, eqb-true, not-false}
 use lib.Dec.{eqb, ltb}
 use lib.IntN.{ℤ}
-use lib.ListN.{length}
-use Rattle.theory.specs.Polynomial.{reduced, roots}
+use lib.ListN.{length, length-map}
+use Rattle.theory.specs.Polynomial.{reduce, reduced, roots}
 use Rattle.theory.specs.Shortest.{count}
 use Rattle.theory.specs.Mark.{mark}
 use Rattle.theory.proofs.Tests.{or-fails-left, or-fails-right}
@@ -23,17 +24,19 @@ use Rattle.classes.specs.Rule7.{classesOf, rule7}
 use Rattle.classes.specs.Checked.{checkedOf}
 use Rattle.classes.proofs.Checks.{same-three-lengths, checked-accepted}
 use Rattle.classes.proofs.Faults.{faultless-higher}
-use Rattle.solver.specs.declared.raise.Lengths as lent
+use Rattle.solver.specs.declared.raise.LentLengths.{LentLengths}
 use Rattle.solver.specs.declared.raise.Raised.the-variants.{Refused}
 use Rattle.solver.specs.Solve.{Lists, polynomialRules, listsFilled}
 use Rattle.solver.specs.Raise.{raiseRules, rootsAmong, raised, raisedMarks, raiseVerdict, raisedOr, raisedOf, raisedLists}
 use Rattle.solver.specs.inner.UsablePolynomial.{polynomialModulus, UsablePolynomial}
 use Rattle.solver.specs.inner.Raise.{raiseModulus, GivenClasses, classesAmong, amongVerdict, amongRaised, amongLists}
+use Rattle.solver.proofs.Coefficients.{row-below}
+use Rattle.solver.proofs.Among.{among-few}
 use Rattle.solver.proofs.Verdicts.{usable-polynomial}
 use Rattle.solver.proofs.RaiseRules.{checked-7}
 
 -- the lengths of lent lists
-abbrev pub lengthsOf : Lists → lent.Lengths
+abbrev pub lengthsOf : Lists → LentLengths
 lengthsOf given = record { residues = length (given .residues); levels = length (given .levels); marks = length (given .marks) }
 
 -- On residues, by rule 11
@@ -53,7 +56,7 @@ module _ (w : List ℕ) (p n : ℕ) (residues : List ℤ) (levels : List ℕ) (g
 -- On integers, by all rules
 
 module _ (f : List ℤ) (p n m : ℕ) (residues : List ℤ) (levels : List ℕ) (given : Lists) where
-  abbrev l : lent.Lengths
+  abbrev l : LentLengths
   l = lengthsOf given
 
   abbrev lent-6 : Verdict
@@ -164,3 +167,10 @@ module _ (f : List ℤ) (p n m : ℕ) (residues : List ℤ) (levels : List ℕ) 
     raised-lists-are =
         let G = classesOf residues levels in
         ap (λ (v : Verdict). listsFilled v (raised f p m G) (raisedMarks f p m G) given) verdict-is
+
+    -- 128 slots are enough for any result
+    pub raised-few : length (raised f p m (classesOf residues levels)) ≤ 128
+    unfolding raised rootsAmong roots reduced
+    raised-few =
+        among-few raise-usable (omega (arith, length-map f (reduce (p ^ m)), raise-few))
+        (row-below f raise-usable (ap (λ (x : ℕ). map (reduce x) f) (sym (all-pass .1)))) raise-given

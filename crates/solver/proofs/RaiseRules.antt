@@ -15,7 +15,7 @@ use Rattle.numbers.specs.inner.Usable.{Usable}
 use Rattle.numbers.proofs.Rules.{accepted-means, refused-means, usable-leads}
 use Rattle.classes.specs.Rule7.{classesOf, rule7}
 use Rattle.classes.specs.Checked.{givenRules, checkedOf}
-use Rattle.solver.specs.declared.raise.Lengths as lent
+use Rattle.solver.specs.declared.raise.LentLengths.{LentLengths}
 use Rattle.solver.specs.Solve.{polynomialRules}
 use Rattle.solver.specs.Raise.{listsRules}
 use Rattle.solver.specs.inner.UsablePolynomial.{polynomialModulus, UsablePolynomial}
@@ -33,7 +33,7 @@ checked-7 p n residues levels same U =
 
 -- From rule 6 on
 
-module _ (p n : ℕ) (residues : List ℤ) (levels : List ℕ) (l : lent.Lengths) (q : ℕ) where
+module _ (p n : ℕ) (residues : List ℤ) (levels : List ℕ) (l : LentLengths) (q : ℕ) where
   abbrev a : ℕ
   a = length residues
 
@@ -68,7 +68,7 @@ module _ (p n : ℕ) (residues : List ℤ) (levels : List ℕ) (l : lent.Lengths
 
 -- From rule 5 for m on
 
-module _ (p n m : ℕ) (residues : List ℤ) (levels : List ℕ) (l : lent.Lengths) where
+module _ (p n m : ℕ) (residues : List ℤ) (levels : List ℕ) (l : LentLengths) where
   abbrev rest : List Verdict
   rest = listsRules p n residues levels (l .residues) (l .levels) (l .marks)
 
@@ -99,7 +99,7 @@ module _ (p n m : ℕ) (residues : List ℤ) (levels : List ℕ) (l : lent.Lengt
 
 -- All but rule 11
 
-module _ (f : List ℤ) (p n m : ℕ) (residues : List ℤ) (levels : List ℕ) (l : lent.Lengths) where
+module _ (f : List ℤ) (p n m : ℕ) (residues : List ℤ) (levels : List ℕ) (l : LentLengths) where
   pub raise-refused : (r : Refusal) → polynomialModulus f p n ≡ Refused r → Refused r ≡ raiseModulus f p n m residues levels l
   unfolding raiseModulus
   raise-refused r e =

@@ -47,7 +47,7 @@ pub fn raise_precision(
         ≡ raisedLists (now (coefficients .entry)) p n m (now («given_residues» .entry)) (now («given_levels» .entry))
         (listsOf (now (residues .entry)) (now (levels .entry)) (now (marks .entry))) ⌝ }
 {
-    let lengths = Lengths {
+    let lengths = LentLengths {
         residues: residues.len(),
         levels: levels.len(),
         marks: marks.len(),
@@ -73,7 +73,7 @@ pub fn raise_precision(
 }
 
 // The lengths of the lists to be filled.
-struct Lengths {
+struct LentLengths {
     residues: usize,
     levels: usize,
     marks: usize,
@@ -87,7 +87,7 @@ fn check_raise(
     m: u32,
     given_residues: &[i32],
     given_levels: &[u8],
-    lengths: Lengths,
+    lengths: LentLengths,
 ) -> Modulus
     ensures { λ r. ⌜ r ≡ raiseModulus (now (coefficients .entry)) p n m (now («given_residues» .entry)) (now («given_levels» .entry)) lengths ⌝ }
 {
@@ -104,7 +104,7 @@ fn check_given(
     m: u32,
     given_residues: &[i32],
     given_levels: &[u8],
-    lengths: Lengths,
+    lengths: LentLengths,
 ) -> Modulus
     requires { ⌜ Usable p n (p ^ n) ⌝ }
     ensures { λ r. ⌜ r ≡ laterModulus p n m (now («given_residues» .entry)) (now («given_levels» .entry)) lengths ⌝ }
@@ -127,7 +127,7 @@ fn check_lists(
     modulus: u64,
     given_residues: &[i32],
     given_levels: &[u8],
-    lengths: Lengths,
+    lengths: LentLengths,
 ) -> Modulus
     requires { ⌜ Usable p n (p ^ n) ⌝ }
     ensures { λ r. ⌜ r ≡ listsModulus p n (now («given_residues» .entry)) (now («given_levels» .entry)) lengths modulus ⌝ }

@@ -20,7 +20,7 @@ use Rattle.numbers.specs.declared.Modulus.{Modulus}
 use Rattle.numbers.specs.Modulus.{powerOr, rule5}
 use Rattle.classes.specs.Rule7.{classesOf}
 use Rattle.classes.specs.inner.Usable.{Faultless}
-use Rattle.solver.specs.declared.raise.Lengths.{Lengths}
+use Rattle.solver.specs.declared.raise.LentLengths.{LentLengths}
 use Rattle.solver.specs.declared.raise.Raised.{Raised}
 use Rattle.solver.specs.declared.tree.Node.{Node}
 use Rattle.solver.specs.Solve.{Lists, listsFilled}
@@ -59,18 +59,18 @@ classesAmong w p n L = signedList (zerosAmong w p n L) p n
 -- what the rules leave: p^m, or the refusal
 
 -- all but 11
-unfoldable pub raiseModulus : List ℤ → ℕ → (n m : ℕ) → List ℤ → List ℕ → Lengths → Modulus
+unfoldable pub raiseModulus : List ℤ → ℕ → (n m : ℕ) → List ℤ → List ℕ → LentLengths → Modulus
 raiseModulus f p n m residues levels l =
     powerOr (tried (raiseRules f p n m residues levels (l .residues) (l .levels) (l .marks))) (p ^ m)
 
 -- from rule 5 for m on
-unfoldable pub laterModulus : ℕ → (n m : ℕ) → List ℤ → List ℕ → Lengths → Modulus
+unfoldable pub laterModulus : ℕ → (n m : ℕ) → List ℤ → List ℕ → LentLengths → Modulus
 laterModulus p n m residues levels l =
     powerOr (tried (rule5 p m ∷ rule17 n m (length residues) (length levels)
     ∷ listsRules p n residues levels (l .residues) (l .levels) (l .marks))) (p ^ m)
 
 -- from rule 6 on
-unfoldable pub listsModulus : ℕ → (n : ℕ) → List ℤ → List ℕ → Lengths → ℕ → Modulus
+unfoldable pub listsModulus : ℕ → (n : ℕ) → List ℤ → List ℕ → LentLengths → ℕ → Modulus
 listsModulus p n residues levels l q = powerOr (tried (listsRules p n residues levels (l .residues) (l .levels) (l .marks))) q
 
 -- what is answered and written for a list w of coefficients modulo pⁿ, by rule 11
