@@ -40,6 +40,9 @@ int print_points(void);
 /* Prints the table of counts at every precision. Returns whether they are the solver's. */
 int print_counts(void);
 
+/* Prints the table of lists raised to a higher precision. Returns whether they are the solver's there. */
+int print_raised(void);
+
 /* The least time of one call, over batches of calls that fill half a second. */
 double time_of(int (*call)(void));
 

@@ -3,13 +3,13 @@ use mathlib.Core.Path.{_≡_, sym, ap, _∙_}
 use mathlib.Core.List.{List, _∷_}
 use Prim.Native.Nat.{ℕ, zero, suc, _+_, _*_, _%_, _^_, _≤_, _<_, _∣_, min}
 use native.Mathlib.Decide.{decLt, decLe}
-use native.Mathlib.Nat.{dvd-trans, dvd-zero, dvd-mul-right-of-dvd, mul-dvd-mul, one-dvd, mul-zero, pow-suc, pow-zero}
+use native.Mathlib.Nat.{dvd-trans, dvd-zero, dvd-mul-right-of-dvd, mul-zero}
 use native.Mathlib.Omega.{arith}
 use lib.ListN.{length}
 use Rattle.theory.specs.Taylor.{taylor, shifted}
 use Rattle.theory.specs.inner.Polynomial.{coef}
 use Rattle.theory.specs.inner.Overwritten.{Overwritten}
-use Rattle.theory.proofs.Numbers.Power.{pow-dvd}
+use Rattle.theory.proofs.Numbers.Power.{pow-dvd, dvd-pow}
 use Rattle.theory.proofs.Numbers.Congruence.{Congruent, cong-refl, cong-add, cong-mul}
 use Rattle.theory.proofs.Polynomials.Arithmetic.{coef-stretch}
 use Rattle.theory.proofs.Polynomials.Taylor.{coef-taylor, taylor-beyond}
@@ -50,10 +50,6 @@ shifted-end m a q f i h =
     let none : coef (shifted a q f) i ≡ 0 =
     coef-stretch q (taylor a f) i ∙ ap (λ (x : ℕ). q ^ i * x) (taylor-beyond a f i h) ∙ mul-zero (q ^ i) in
     rw none (dvd-zero m)
-
-dvd-pow : (p q i : ℕ) → p ∣ q → p ^ i ∣ q ^ i
-dvd-pow p q zero d = rw (pow-zero p) (one-dvd (q ^ 0))
-dvd-pow p q (suc i) d = rw (pow-suc p i, pow-suc q i) (mul-dvd-mul (p ^ i) p (dvd-pow p q i d) d)
 
 -- and p^e those from index e on, where p divides q
 pub shifted-beyond : (p e a q : ℕ) (f : List ℕ) → p ∣ q → (i : ℕ) → min e (length f) ≤ i → p ^ e ∣ coef (shifted a q f) i

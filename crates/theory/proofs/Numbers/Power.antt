@@ -1,7 +1,7 @@
 -- Powers of a base.
 use mathlib.Core.Path.{_≡_, sym, ap, _∙_}
 use Prim.Native.Nat.{ℕ, zero, suc, _+_, _-_, _*_, _^_, _≤_, _<_, _∣_}
-use native.Mathlib.Nat.{one-le-pow, dvd-mul-left, mul-le-mul-right, pow-le-pow-left, pow-le-pow-right, pow-suc, pow-succ', pow-zero}
+use native.Mathlib.Nat.{one-dvd, one-le-pow, dvd-mul-left, mul-dvd-mul, mul-le-mul-right, pow-le-pow-left, pow-le-pow-right, pow-suc, pow-succ', pow-zero}
 use native.Mathlib.Numerals.{add-one}
 use native.Mathlib.Decide.{decLt}
 use native.Mathlib.Omega.{arith}
@@ -18,6 +18,10 @@ pow-split p {t} {n} h = ap (λ (x : ℕ). p ^ x) (omega arith) ∙ pow-add p (n 
 
 pub pow-dvd : (p : ℕ) {t n : ℕ} → t ≤ n → p ^ t ∣ p ^ n
 pow-dvd p {t} {n} h = rw (pow-split p h) (dvd-mul-left (p ^ t) (p ^ (n - t)))
+
+pub dvd-pow : (p q i : ℕ) → p ∣ q → p ^ i ∣ q ^ i
+dvd-pow p q zero d = rw (pow-zero p) (one-dvd (q ^ 0))
+dvd-pow p q (suc i) d = rw (pow-suc p i, pow-suc q i) (mul-dvd-mul (p ^ i) p (dvd-pow p q i d) d)
 
 -- p divides each power from the first on, and is no more
 pub base-dvd : (p : ℕ) {e : ℕ} → 0 < e → p ∣ p ^ e

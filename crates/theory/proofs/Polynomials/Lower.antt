@@ -7,9 +7,9 @@ use native.Mathlib.Nat.{div-add-mod, dvd-trans}
 use native.Mathlib.Omega.{arith}
 use lib.IntN.{ℤ}
 use Rattle.theory.specs.Polynomial.{reduced, zeros, roots}
-use Rattle.theory.proofs.Numbers.Power.{pow-pos, pow-dvd}
+use Rattle.theory.proofs.Numbers.Power.{pow-dvd}
 use Rattle.theory.proofs.Numbers.Congruence.{cong-refl, cong-residue, cong-sym}
-use Rattle.theory.proofs.Numbers.Reduction.{reduce-down}
+use Rattle.theory.proofs.Numbers.Reduction.{reduce-lower}
 use Rattle.theory.proofs.Polynomials.Congruence.{SameModulo, zeros-same}
 use Rattle.theory.proofs.Polynomials.Zeros.{zero-dvd, dvd-zero-at, zeros-periodic}
 
@@ -18,7 +18,7 @@ reduced-lower : (f : List ℤ) (p j n : ℕ) → 0 < p → j ≤ n → SameModul
 unfolding reduced
 reduced-lower [] p j n hp h i = cong-refl
 reduced-lower (a ∷ f) p j n hp h zero =
-    cong-sym (cong-residue (sym (reduce-down (p ^ j) (p ^ n) (pow-pos p hp j) (pow-pos p hp n) (pow-dvd p h) a)))
+    cong-sym (cong-residue (sym (reduce-lower p hp j n h a)))
 reduced-lower (a ∷ f) p j n hp h (suc i) = reduced-lower f p j n hp h i
 
 -- so they tell the roots there

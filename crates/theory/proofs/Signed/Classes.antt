@@ -13,8 +13,8 @@ use Rattle.theory.specs.Class.{Class, IsClass, Member, share}
 use Rattle.theory.specs.Centered.{isCentered}
 use Rattle.theory.specs.SignedClass.{SignedClass, signedClass, IsSignedClass, signed, natural, naturals, levelsOf}
 use Rattle.theory.proofs.Lists.Map.{map-map, map-kept}
-use Rattle.theory.proofs.Numbers.Power.{pow-pos, pow-dvd}
-use Rattle.theory.proofs.Numbers.Reduction.{reduce-lt, reduce-down, congruent-multiple, multiple-congruent}
+use Rattle.theory.proofs.Numbers.Power.{pow-pos}
+use Rattle.theory.proofs.Numbers.Reduction.{reduce-lt, reduce-lower, congruent-multiple, multiple-congruent}
 use Rattle.theory.proofs.Classes.Equal.{class-equal}
 use Rattle.theory.proofs.Classes.Sum.{levels}
 use Rattle.theory.proofs.Signed.Centered.{range-wider, reduce-centered, centered-range, centered-reduce}
@@ -79,5 +79,5 @@ unfolding share natural
 share-natural p hp c d =
     let m = min (c .level) (d .level) in
     let at : (e : SignedClass) → m ≤ e .level → reduce (p ^ (e .level)) (e .residue) % p ^ m ≡ reduce (p ^ m) (e .residue) =
-    λ e l. reduce-down (p ^ m) (p ^ (e .level)) (pow-pos p hp m) (pow-pos p hp (e .level)) (pow-dvd p l) (e .residue) in
+    λ e l. reduce-lower p hp m (e .level) l (e .residue) in
     ap₂ eqb (at c (min-le-left (c .level) (d .level))) (at d (min-le-right (c .level) (d .level)))

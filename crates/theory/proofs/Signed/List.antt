@@ -20,9 +20,9 @@ use Rattle.theory.proofs.Lists.Map.{in-map, map-in}
 use Rattle.theory.proofs.Lists.NoRepeat.{NoRepeat, no-repeat-map, no-repeat-unmap}
 use Rattle.theory.proofs.Lists.Pigeonhole.{perm-of-entries}
 use Rattle.theory.proofs.Lists.Rising.{Rising, rising-map}
-use Rattle.theory.proofs.Numbers.Power.{pow-pos, pow-dvd}
+use Rattle.theory.proofs.Numbers.Power.{pow-pos}
 use Rattle.theory.proofs.Numbers.Integers.{less-is}
-use Rattle.theory.proofs.Numbers.Reduction.{reduce-lt, reduce-down}
+use Rattle.theory.proofs.Numbers.Reduction.{reduce-lt, reduce-lower}
 use Rattle.theory.proofs.Range.{passing-sound, passing-complete, passing-no-repeat}
 use Rattle.theory.proofs.Classes.Cover.{listed, member-level, shortest-sound, shortest-complete, shortest-no-repeat}
 use Rattle.theory.proofs.Signed.Centered.{range-wider, reduce-centered, centered-range, centered-reduce}
@@ -106,7 +106,7 @@ module _ (S : ℕ → Bool) (p n : ℕ) (hp : 0 < p) where
       let level : d .level ≡ t = sym (member-level S p n hp d (w .listed) r (w .member)) ∙ k .its-level in
       let fits : t ≤ n = rw level at (listed S p n hp d (w .listed) .is-class .level-fits) in
       let residue : d .residue ≡ reduce (p ^ t) z =
-      sym (w .member .congruent) ∙ ap (λ (x : ℕ). r % p ^ x) level ∙ reduce-down (p ^ t) (p ^ n) (hq t) (hq n) (pow-dvd p fits) z in
+      sym (w .member .congruent) ∙ ap (λ (x : ℕ). r % p ^ x) level ∙ reduce-lower p hp t n fits z in
       let same : signed p d ≡ c =
       signed-equal
       (ap (λ (x : ℕ). centered (p ^ x) (d .residue)) level ∙ ap (centered (p ^ t)) residue ∙ centered-reduce (p ^ t) z (hq t) (k .in-range))
@@ -128,7 +128,7 @@ module _ (S : ℕ → Bool) (p n : ℕ) (hp : 0 < p) where
       record {
         below = reduce-lt (p ^ n) (hq n) z;
         congruent =
-            reduce-down (p ^ t) (p ^ n) (hq t) (hq n) (pow-dvd p (k .level-fits)) z
+            reduce-lower p hp t n (k .level-fits) z
             ∙ reduce-centered (p ^ t) (d .residue) (k .residue-fits);
       } in
       in-cast e (listed-signed S p n (signedClass z t) (record {
