@@ -13,7 +13,7 @@ use Rattle.theory.specs.ClassList.{members}
 use Rattle.theory.specs.SignedClass.{SignedClass, IsSignedClass, signed, naturals}
 use Rattle.theory.specs.SignedList.{signedList}
 use Rattle.theory.specs.inner.Started.{started}
-use Rattle.theory.specs.inner.Join.{joined}
+use Rattle.theory.specs.inner.Join.{joined, FewStay}
 use Rattle.theory.proofs.Lists.Map.{in-map, map-map}
 use Rattle.theory.proofs.Lists.Permutation.{perm-length}
 use Rattle.theory.proofs.Classes.Apart.{Apart}
@@ -28,7 +28,8 @@ use Rattle.classes.proofs.Entries.{lent-length}
 use Rattle.classes.proofs.Faults.{faultless-apart}
 use Rattle.solver.specs.inner.Table.{Below}
 use Rattle.solver.specs.inner.Code.{code, classOf, ResiduesFit}
-use Rattle.solver.specs.inner.Raise.{GivenClasses, FewStay, codesOf, classesAmong, zerosAmong}
+use Rattle.solver.specs.inner.Start.{codesOf}
+use Rattle.solver.specs.inner.Raise.{GivenClasses, classesAmong, zerosAmong}
 use Rattle.solver.proofs.Top.{zeros-few}
 use Rattle.solver.proofs.Codes.{classes-back, residues-fit}
 

@@ -26,7 +26,7 @@ use Rattle.solver.specs.declared.tree.Settled.{Settled}
 use Rattle.solver.specs.inner.Code.{code}
 use Rattle.solver.specs.inner.Table.{Residues}
 use Rattle.solver.specs.inner.Recursion.{IsPrimePower, IsNode, AtNode, Appended, Done, mostClasses, within, codesWithin}
-use Rattle.solver.specs.inner.Raise.{nodeAt, shiftedLength, codesOf}
+use Rattle.solver.specs.inner.Start.{nodeAt, shiftedLength, codesOf}
 use Rattle.solver.proofs.Tables.{residues-below, residues-same}
 use Rattle.solver.proofs.Shift.{shifted-end, shifted-beyond}
 use Rattle.solver.proofs.Appended.{added-none, added-more}

@@ -8,4 +8,5 @@ pub mod Reduced
 pub mod UsablePolynomial
 pub mod Points
 pub mod Counts
+pub mod Start
 pub mod Raise

@@ -4,9 +4,8 @@ ghost use mathlib.Core.Path.{_≡_};
 ghost use mathlib.Core.List.{map};
 ghost use Prim.Native.Nat.{_/_, _%_, _^_, _≤_, _<_};
 ghost use lib.ListN.{length, take};
-ghost use Rattle.theory.specs.inner.Join.{insideTotal, joinedLevel, joined};
+ghost use Rattle.theory.specs.inner.Join.{insideTotal, joinedLevel, joined, FewStay};
 ghost use Rattle.solver.specs.inner.Code.{code as codeOf, classOf, ResiduesFit};
-ghost use Rattle.solver.specs.inner.Raise.{FewStay};
 use crate::code;
 
 // The member numbers modulo pⁿ of the classes that lie in the class of residue a modulo q = p^t, added up.

@@ -8,7 +8,7 @@ ghost use Rattle.theory.specs.inner.Started.{treeBelow, started};
 ghost use Rattle.classes.specs.Rule7.{classesOf};
 ghost use Rattle.classes.specs.inner.Usable.{Faultless};
 ghost use Rattle.solver.specs.inner.Recursion.{IsPrimePower, Appended};
-ghost use Rattle.solver.specs.inner.Raise.{nodeAt, shiftedLength, codesOf};
+ghost use Rattle.solver.specs.inner.Start.{nodeAt, shiftedLength, codesOf};
 use crate::taylor;
 use crate::tree;
 use crate::tree::Node;

@@ -1,20 +1,16 @@
--- The recursion started at given classes, and the lists that come of it.
+-- Raising a list: what its rules leave, and what it answers and writes for coefficients modulo pⁿ.
 use mathlib.Core.Path.{_≡_}
-use mathlib.Core.Bool.{Bool, true, false, _&&_}
+use mathlib.Core.Bool.{Bool, _&&_}
 use mathlib.Core.List.{List, [], _∷_, map}
-use Prim.Native.Nat.{ℕ, _-_, _^_, _≤_, _<_, min}
-use lib.Dec.{eqb}
+use Prim.Native.Nat.{ℕ, _-_, _^_, _≤_}
 use lib.IntN.{ℤ}
 use lib.ListN.{length}
-use Rattle.theory.specs.Lists.{In}
 use Rattle.theory.specs.Polynomial.{zeros}
-use Rattle.theory.specs.Class.{Class}
 use Rattle.theory.specs.ClassList.{members}
-use Rattle.theory.specs.SignedClass.{SignedClass, signed, natural, naturals}
+use Rattle.theory.specs.SignedClass.{SignedClass, natural, naturals}
 use Rattle.theory.specs.SignedList.{signedList}
 use Rattle.theory.specs.Shortest.{count}
 use Rattle.theory.specs.Mark.{markOf}
-use Rattle.theory.specs.inner.Join.{joinedLevel}
 use Rattle.refusal.specs.Rules.{Verdict, tried, rule11, rule17}
 use Rattle.numbers.specs.declared.Modulus.{Modulus}
 use Rattle.numbers.specs.Modulus.{powerOr, rule5}
@@ -22,32 +18,14 @@ use Rattle.classes.specs.Rule7.{classesOf}
 use Rattle.classes.specs.inner.Usable.{Faultless}
 use Rattle.solver.specs.declared.raise.LentLengths.{LentLengths}
 use Rattle.solver.specs.declared.raise.Raised.{Raised}
-use Rattle.solver.specs.declared.tree.Node.{Node}
 use Rattle.solver.specs.Solve.{Lists, listsFilled}
 use Rattle.solver.specs.Raise.{listsRules, raiseRules, raisedOr}
-use Rattle.solver.specs.inner.Code.{code}
-
--- the node of the class a/t, with n − t levels below it
-abbrev pub nodeAt : (p n : ℕ) → Class → Node
-nodeAt p n c = record { residue = c .residue; power = p ^ (c .level); level = c .level; left = n - c .level }
-
--- how many of c coefficients the shift to a class of level t has modulo p^e, at most
-unfoldable pub shiftedLength : (c e t : ℕ) → ℕ
-shiftedLength c e t = elim (eqb t 0) [ true ↦ c | false ↦ min e c ]
 
 -- a given list that the rules accept: classes at precision n, 64 at most, of which no two share a member
 pub record GivenClasses (p n : ℕ) (residues : List ℤ) (levels : List ℕ) : Type 0 where
   pub same-length : length residues ≡ length levels
   pub few : length residues ≤ 64
   pub faultless : Faultless p n (classesOf residues levels)
-
--- where there are fewer classes than p, joining leaves each at its level
-pub record FewStay (p n : ℕ) (L : List SignedClass) : Type 0 where
-  pub stays : length L < p → (c : SignedClass) → In c L → joinedLevel p n L (c .residue) ≡ c .level
-
--- the codes of classes
-abbrev pub codesOf : ℕ → List Class → List ℕ
-codesOf p = map (λ (c : Class). code (signed p c))
 
 -- the zeros modulo pⁿ that are members of a class of the list, and their classes
 abbrev pub zerosAmong : List ℕ → ℕ → ℕ → List SignedClass → ℕ → Bool

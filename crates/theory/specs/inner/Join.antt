@@ -1,10 +1,13 @@
 -- Joining: the classes of a list that share no member, made as few as they can be. A class is whole in their union exactly if the member
 -- numbers of the entries inside it add up to its own, so that nothing has to look for sets of siblings.
+use mathlib.Core.Path.{_≡_}
 use mathlib.Core.Bool.{Bool, _&&_}
 use mathlib.Core.List.{List, map}
-use Prim.Native.Nat.{ℕ, _-_, _^_}
+use Prim.Native.Nat.{ℕ, _-_, _^_, _<_}
 use lib.Dec.{eqb, leb}
 use lib.IntN.{ℤ}
+use lib.ListN.{length}
+use Rattle.theory.specs.Lists.{In}
 use Rattle.theory.specs.Range.{least}
 use Rattle.theory.specs.Polynomial.{reduce}
 use Rattle.theory.specs.Centered.{isCentered}
@@ -46,3 +49,7 @@ isFirst p n L c = isCentered (p ^ joinedLevel p n L (c .residue)) (c .residue)
 unfoldable pub joined : ℕ → ℕ → List SignedClass → List SignedClass
 unfolding keep joinedClass isFirst
 joined p n L = map (joinedClass p n L) (keep (isFirst p n L) L)
+
+-- where there are fewer classes than p, joining leaves each at its level
+pub record FewStay (p n : ℕ) (L : List SignedClass) : Type 0 where
+  pub stays : length L < p → (c : SignedClass) → In c L → joinedLevel p n L (c .residue) ≡ c .level

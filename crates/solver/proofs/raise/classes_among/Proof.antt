@@ -11,7 +11,7 @@ use Rattle.theory.specs.Class.{Class}
 use Rattle.theory.specs.SignedClass.{SignedClass}
 use Rattle.theory.specs.inner.Join.{joined}
 use Rattle.solver.specs.inner.Code.{code, classOf}
-use Rattle.solver.specs.inner.Raise.{codesOf}
+use Rattle.solver.specs.inner.Start.{codesOf}
 use Rattle.solver.proofs.Codes.{sorted-front}
 use Rattle.solver.proofs.Top.{top-at}
 use Rattle.solver.proofs.Among.{foundClasses, signedClasses, found-few, found-fit, found-back, found-stay, found-joined}

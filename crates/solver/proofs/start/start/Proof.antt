@@ -20,7 +20,7 @@ use Rattle.solver.specs.declared.tree.PrimePower.{PrimePower}
 use Rattle.solver.specs.declared.tree.Node.{Node}
 use Rattle.solver.specs.inner.Table.{Residues}
 use Rattle.solver.specs.inner.Recursion.{IsPrimePower, AtNode, Done}
-use Rattle.solver.specs.inner.Raise.{nodeAt, shiftedLength}
+use Rattle.solver.specs.inner.Start.{nodeAt, shiftedLength}
 use Rattle.solver.proofs.Child.{modulus-pos}
 use Rattle.solver.proofs.Node.{class-fits}
 use Rattle.solver.proofs.Starting.{length-some, length-most, class-node, start-at, start-most, start-added}

@@ -20,7 +20,7 @@ use Rattle.classes.proofs.Entries.{lent-length, lent-slot}
 use Rattle.classes.proofs.Faults.{faultless-entry}
 use Rattle.solver.specs.declared.tree.PrimePower.{PrimePower}
 use Rattle.solver.specs.inner.Recursion.{Appended}
-use Rattle.solver.specs.inner.Raise.{codesOf}
+use Rattle.solver.specs.inner.Start.{codesOf}
 use Rattle.solver.proofs.Starting.{started-none, started-next, started-room}
 use Rattle.solver.proofs.start.start_all.Statement.{statement}
 use Rattle.solver.proofs.start.start_all.Tie as tie
