@@ -49,8 +49,11 @@ enum wimpleclay_number {
     WIMPLECLAY_TOO_MANY_COEFFICIENTS = 3, /* more than 65 */
     WIMPLECLAY_PRIME_OUT_OF_RANGE = 4,    /* p is below 2 or above 65535 */
     WIMPLECLAY_COMPOSITE = 14,            /* p is composite; place: its least divisor above 1, which is a prime */
-    WIMPLECLAY_PRECISION = 5,             /* n is 0, or p^n exceeds 4294967295 */
-    WIMPLECLAY_LENGTHS = 6,               /* the lists differ in length; place: the shortest length */
+    WIMPLECLAY_PRECISION = 5,             /* n is 0, or p^n exceeds 4294967295; then the same for m */
+    WIMPLECLAY_PRECISIONS_FALL = 17,      /* m is below n, or a given list has more than 64 entries */
+    /* The lists differ in length; place: the shortest length. Where lists are given and others are to be filled, those
+       given are looked at first, by themselves. */
+    WIMPLECLAY_LENGTHS = 6,
     /* A given list has an entry with level above n, residue outside -p^level < 2 * residue <= p^level, residue not
        above the entry before (as signed numbers), a member shared with an earlier entry, or (writer) a mark above 2;
        place: the first such index. */
@@ -67,8 +70,13 @@ enum wimpleclay_number {
 /* The most coefficients, and the slots of a row for wimpleclay_read_problem. */
 #define WIMPLECLAY_MAX_COEFFICIENTS 65
 
-/* No polynomial has more classes: lists of this many slots are never refused 11. */
+/* No polynomial has more classes: wimpleclay_solve never refuses lists of this many slots by rule 11. It is also the
+   most entries that wimpleclay_raise is given. */
 #define WIMPLECLAY_MAX_CLASSES 64
+
+/* No more classes come of raising the precision of a list: wimpleclay_raise never refuses lists of this many slots by
+   rule 11. */
+#define WIMPLECLAY_MAX_RAISED 128
 
 /* No n is above 31: a row of counts with this many slots is never refused 11. */
 #define WIMPLECLAY_MAX_COUNTS 32
@@ -148,6 +156,36 @@ typedef struct {
    modulo 2^4 the row is 1, 1, 2, 4, 4. Rules 2, 3, 4, 14, 5 and 11 (place: n + 1). */
 wimpleclay_counts_answer wimpleclay_counts(const int64_t *coefficients, size_t coefficients_length, uint32_t p,
                                            uint32_t n, uint64_t *counts, size_t counts_length);
+
+typedef struct {
+    uint32_t number;
+    size_t place;
+    size_t classes; /* k, the number of classes */
+    uint64_t roots; /* the number of roots: the sum of the classes' members */
+} wimpleclay_raise_answer;
+
+/* The precision of a list raised from n to m, which is not below n: the roots modulo p^m that are congruent to a
+   modulo p^t for some given class a/t. The two given lists are classes modulo p^n, as the solver left them or as
+   given. All their entries are used, at most 64: pass k for both lengths; length 0 is fine and gives k = 0. The lists
+   to be filled must have the same length and be other memory than those given. The k classes of the shortest list at
+   precision m whose members are exactly these roots go into the first k slots, as wimpleclay_solve fills them, with
+   marks for the polynomial modulo p^m. Later slots keep their content.
+
+   Where the given list is the one that wimpleclay_solve fills at n, the result is the one that it fills at m. With
+   another list, roots in no given class are left out, a given class that holds no root adds nothing, and where classes
+   make up a larger one, that stands for them. 128 slots are always enough: a class of the result is one of the at most
+   64 that wimpleclay_solve fills at m, or one of the at most 64 given, or stands for several of these.
+
+   For x^2 - 1 from 2^3 to 2^4 the given class 1/1 becomes -1/3 and 1/3, with four roots; for x^2 + 1 from 5 to 5^2 the
+   given class 2/1 becomes 7/2, with one.
+
+   Rules 2, 3, 4, 14, 5 for n, 5 for m, 17, 6 for the given lists, 6 for those to be filled, 7 at n and 11 (place:
+   k, so a call with no slots asks for k). */
+wimpleclay_raise_answer wimpleclay_raise(const int64_t *coefficients, size_t coefficients_length, uint32_t p,
+                                         uint32_t n, uint32_t m, const int32_t *given_residues,
+                                         size_t given_residues_length, const uint8_t *given_levels,
+                                         size_t given_levels_length, int32_t *residues, size_t residues_length,
+                                         uint8_t *levels, size_t levels_length, uint8_t *marks, size_t marks_length);
 
 /* Stepping through the roots ***************************************************************************************/
 

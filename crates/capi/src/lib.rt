@@ -5,6 +5,7 @@ mod counts;
 mod fill_map;
 mod is_root;
 mod next_root;
+mod raise;
 mod read_problem;
 mod solve;
 mod test_points;
