@@ -13,13 +13,14 @@ use Rattle.theory.specs.ClassList.{members}
 use Rattle.theory.specs.SignedClass.{SignedClass, IsSignedClass, signed, naturals}
 use Rattle.theory.specs.SignedList.{signedList}
 use Rattle.theory.specs.inner.Started.{started}
-use Rattle.theory.specs.inner.Join.{joined, FewStay}
+use Rattle.theory.specs.inner.Join.{joined, FewStay, AllFilledDown}
 use Rattle.theory.proofs.Lists.Map.{in-map, map-map}
 use Rattle.theory.proofs.Lists.Permutation.{perm-length}
 use Rattle.theory.proofs.Classes.Apart.{Apart}
 use Rattle.theory.proofs.Classes.Started.{started-apart, started-members, started-length}
 use Rattle.theory.proofs.Signed.Classes.{signed-class, all-natural-signed}
 use Rattle.theory.proofs.Signed.Entries.{signed-agree}
+use Rattle.theory.proofs.Signed.AddsUp.{filled-down}
 use Rattle.theory.proofs.Signed.Join.{joined-permutation, joined-length}
 use Rattle.theory.proofs.Signed.Few.{few-stay}
 use Rattle.numbers.specs.inner.Usable.{Usable}
@@ -90,6 +91,9 @@ module _ {w : List ℕ} {p n m : ℕ} (U : Usable p n m) (short : length w ≤ 6
 
   pub found-stay : FewStay p n signedClasses
   found-stay = record { stays = few-stay p n hp signedClasses (rw back found-apart) }
+
+  pub found-filled : AllFilledDown p n signedClasses
+  found-filled = record { filled = filled-down p n hp signedClasses (rw back found-apart) }
 
   -- joined, they are the list
   pub found-joined : Permutation (joined p n signedClasses) (classesAmong w p n (classesOf residues levels))

@@ -4,7 +4,7 @@ use mathlib.Core.Logic.{_↔_}
 use mathlib.Core.Bool.{Bool, true, false}
 use Prim.Native.Nat.{ℕ, suc, _+_, _-_, _*_, _/_, _%_, _^_, _≤_, _<_}
 use native.Mathlib.Nat.{le-refl, div-lt-iff-lt-mul, div-add-mod', mul-le-mul-right, add-mul-mod-self-right, mod-eq-of-lt, mod-lt}
-use native.Mathlib.Nat.{mod-mod-of-dvd}
+use native.Mathlib.Nat.{le-trans, mod-mod-of-dvd}
 use native.Mathlib.Omega.{arith}
 use Rattle.theory.specs.Class.{Class, class, IsClass, Member}
 use Rattle.theory.specs.Shortest.{isWhole, classAt}
@@ -51,6 +51,18 @@ module _ (S : ℕ → Bool) (p n : ℕ) (hp : 0 < p) where
   whole-point r h e =
       whole-intro (classAt p r n) (record { level-fits = le-refl n; residue-fits = mod-lt r (pow-pos p hp n) })
       (λ x m. let q : x ≡ r = sym (mod-eq-of-lt (m .below)) ∙ m .congruent ∙ mod-eq-of-lt h in rw q e)
+
+  -- where a class around r is whole, so is each smaller one around r
+  pub whole-down : (r s t : ℕ) → s ≤ t → t ≤ n → isWhole S p n (classAt p r s) ≡ true → isWhole S p n (classAt p r t) ≡ true
+  whole-down r s t h k w =
+      whole-intro (classAt p r t) (record { level-fits = k; residue-fits = mod-lt r (pow-pos p hp t) })
+      (λ x m. whole-elim (classAt p r s) (le-trans h k) w x (record {
+        below = m .below;
+        congruent =
+            sym (mod-mod-of-dvd (p ^ s) x (pow-dvd p h))
+            ∙ ap (λ (y : ℕ). y % p ^ s) (m .congruent)
+            ∙ mod-mod-of-dvd (p ^ s) r (pow-dvd p h);
+      }))
 
   -- "A class is whole exactly if all p classes one level below it are whole"
   pub whole-split : (a t : ℕ) → t < n → a < p ^ t

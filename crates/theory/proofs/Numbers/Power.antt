@@ -1,7 +1,8 @@
 -- Powers of a base.
-use mathlib.Core.Path.{_≡_, sym, ap, _∙_}
-use Prim.Native.Nat.{ℕ, zero, suc, _+_, _-_, _*_, _^_, _≤_, _<_, _∣_}
-use native.Mathlib.Nat.{one-dvd, one-le-pow, dvd-mul-left, mul-dvd-mul, mul-le-mul-right, pow-le-pow-left, pow-le-pow-right, pow-suc, pow-succ', pow-zero}
+use mathlib.Core.Path.{_≡_, refl, sym, ap, _∙_}
+use Prim.Native.Nat.{ℕ, zero, suc, _+_, _-_, _*_, _/_, _^_, _≤_, _<_, _∣_}
+use native.Mathlib.Nat.{one-dvd, one-le-pow, dvd-mul-left, mul-div-cancel, mul-dvd-mul, mul-le-mul-right}
+use native.Mathlib.Nat.{pow-le-pow-left, pow-le-pow-right, pow-suc, pow-succ', pow-zero}
 use native.Mathlib.Numerals.{add-one}
 use native.Mathlib.Decide.{decLt}
 use native.Mathlib.Omega.{arith}
@@ -37,6 +38,12 @@ pow-lt p two {l} {m} h =
 -- one factor more
 pub pow-next : (p t : ℕ) {q : ℕ} → q ≡ p ^ t → q * p ≡ p ^ (t + 1)
 pow-next p t e = ap (λ (x : ℕ). x * p) e ∙ sym (pow-suc p t) ∙ ap (λ (x : ℕ). p ^ x) (sym (add-one t))
+
+-- and one less
+pub pow-before : (p t : ℕ) {q : ℕ} → 0 < p → 0 < t → q ≡ p ^ t → q / p ≡ p ^ (t - 1)
+pow-before p t hp h e =
+    let one : t - 1 + 1 ≡ t = omega arith in
+    ap (λ (x : ℕ). x / p) (e ∙ ap (λ (x : ℕ). p ^ x) (sym one) ∙ sym (pow-next p (t - 1) refl)) ∙ mul-div-cancel (p ^ (t - 1)) hp
 
 -- a power below 2^m has an exponent below m
 pub exponent-lt : (p k m : ℕ) → 2 ≤ p → p ^ k < 2 ^ m → k < m

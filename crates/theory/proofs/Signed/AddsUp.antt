@@ -3,7 +3,7 @@ use mathlib.Core.Path.{_≡_, refl, sym, ap, _∙_}
 use mathlib.Core.Bool.{Bool, true}
 use mathlib.Core.List.{List, [], _∷_, _++_}
 use Prim.Native.Nat.{ℕ, _+_, _-_, _%_, _^_, _≤_, _<_}
-use native.Mathlib.Nat.{le-trans, lt-of-not-le, le-of-lt, mod-mod-of-dvd}
+use native.Mathlib.Nat.{le-refl, le-trans, lt-of-not-le, le-of-lt, mod-mod-of-dvd}
 use native.Mathlib.Decide.{decLe}
 use native.Mathlib.Omega.{arith}
 use lib.Dec.{eqb, leb}
@@ -18,7 +18,7 @@ use Rattle.theory.specs.ClassList.{members, memberTotal}
 use Rattle.theory.specs.Shortest.{isWhole, classAt, levelOf}
 use Rattle.theory.specs.SignedClass.{SignedClass, natural, naturals, levelsOf}
 use Rattle.theory.specs.inner.Keep.{keep}
-use Rattle.theory.specs.inner.Join.{insideAt, insideTotal, addsUp, joinedLevel}
+use Rattle.theory.specs.inner.Join.{insideAt, insideTotal, addsUp, joinedLevel, FilledDown}
 use Rattle.theory.proofs.Tests.{same-test, not-holding, and-left, and-right, and-intro}
 use Rattle.theory.proofs.Lists.Names.{in-cast}
 use Rattle.theory.proofs.Lists.Map.{in-map, map-in, map-append}
@@ -29,7 +29,7 @@ use Rattle.theory.proofs.Numbers.Reduction.{reduce-lt, reduce-lower}
 use Rattle.theory.proofs.Range.{least-range, passing-same}
 use Rattle.theory.proofs.Passing.{passing-as-many}
 use Rattle.theory.proofs.Least.{least-is}
-use Rattle.theory.proofs.Classes.Whole.{whole-elim, whole-intro}
+use Rattle.theory.proofs.Classes.Whole.{whole-elim, whole-intro, whole-down}
 use Rattle.theory.proofs.Classes.Level.{level-whole, below-level}
 use Rattle.theory.proofs.Classes.Members.{member-congruent, congruent-member, members-sound, members-complete}
 use Rattle.theory.proofs.Classes.Sum.{class-size, disjoint-total, total-next}
@@ -126,14 +126,18 @@ module _ (p n : ℕ) (hp : 0 < p) where
         ap (λ (c : Class). c .level) (apart .disjoint (natural p d) (natural p e) (map-in (natural p) L d u) (map-in (natural p) L e v) r
         (record { below = h; congruent = f }) (record { below = h; congruent = g }))
 
-    -- an entry is whole in the union, so its members' levels are no higher than its own
-    pub entry-level : (d : SignedClass) → In d L → (r : ℕ) → Around p d r
-        → (isWhole S p n (classAt p r (levelOf S p n r)) ≡ true) × (levelOf S p n r ≤ d .level)
+    -- an entry is whole in the union
+    entry-whole : (d : SignedClass) → In d L → (r : ℕ) → Around p d r → isWhole S p n (classAt p r (d .level)) ≡ true
     unfolding natural
-    entry-level d u r e =
+    entry-whole d u r e =
         let k = apart .classes (natural p d) (map-in (natural p) L d u) in
         let w : isWhole S p n (natural p d) ≡ true = whole-intro S p n hp (natural p d) k (λ x m. of-entry p L x d u (m .congruent)) in
-        level-whole S p n r (d .level) (k .level-fits) (rw e w)
+        rw e w
+
+    -- so its members' levels are no higher than its own
+    pub entry-level : (d : SignedClass) → In d L → (r : ℕ) → Around p d r
+        → (isWhole S p n (classAt p r (levelOf S p n r)) ≡ true) × (levelOf S p n r ≤ d .level)
+    entry-level d u r e = level-whole S p n r (d .level) (level-in d u) (entry-whole d u r e)
 
     -- The class of residue a and level t, and the entries inside it
     module _ (a t : ℕ) (k : IsClass p n (class a t)) where
@@ -239,3 +243,15 @@ module _ (p n : ℕ) (hp : 0 < p) where
         least-is (addsUp p n L (d .residue)) n 0 (levelOf S p n r) (omega arith) (omega (arith, level-in d u))
         (λ t l b. whole-adds-up d u t (omega arith) ∙ below-level S p n r t b)
         (λ b. whole-adds-up d u (levelOf S p n r) h ∙ w)
+
+    -- and where a class around the residue adds up, so does each smaller one down to the entry
+    pub filled-down : (d : SignedClass) → In d L → FilledDown p n L d
+    filled-down d u =
+        let r = reduce (p ^ n) (d .residue) in
+        record {
+          level-fits = level-in d u;
+          own = whole-adds-up d u (d .level) (le-refl (d .level)) ∙ entry-whole d u r (own-around d u);
+          down = λ s t h k e.
+              whole-adds-up d u t k
+              ∙ whole-down S p n hp r s t h (le-trans k (level-in d u)) (sym (whole-adds-up d u s (le-trans h k)) ∙ e);
+        }

@@ -1,9 +1,9 @@
 -- Joining: the classes of a list that share no member, made as few as they can be. A class is whole in their union exactly if the member
 -- numbers of the entries inside it add up to its own, so that nothing has to look for sets of siblings.
 use mathlib.Core.Path.{_≡_}
-use mathlib.Core.Bool.{Bool, _&&_}
+use mathlib.Core.Bool.{Bool, true, _&&_}
 use mathlib.Core.List.{List, map}
-use Prim.Native.Nat.{ℕ, _-_, _^_, _<_}
+use Prim.Native.Nat.{ℕ, _-_, _^_, _≤_, _<_}
 use lib.Dec.{eqb, leb}
 use lib.IntN.{ℤ}
 use lib.ListN.{length}
@@ -53,3 +53,13 @@ joined p n L = map (joinedClass p n L) (keep (isFirst p n L) L)
 -- where there are fewer classes than p, joining leaves each at its level
 pub record FewStay (p n : ℕ) (L : List SignedClass) : Type 0 where
   pub stays : length L < p → (c : SignedClass) → In c L → joinedLevel p n L (c .residue) ≡ c .level
+
+-- the class has a level up to n, where it adds up; and where a class around its residue adds up, so does each smaller one down to it
+pub record FilledDown (p n : ℕ) (L : List SignedClass) (c : SignedClass) : Type 0 where
+  pub level-fits : c .level ≤ n
+  pub own : addsUp p n L (c .residue) (c .level) ≡ true
+  pub down : (s t : ℕ) → s ≤ t → t ≤ c .level → addsUp p n L (c .residue) s ≡ true → addsUp p n L (c .residue) t ≡ true
+
+-- and so has each of the list
+pub record AllFilledDown (p n : ℕ) (L : List SignedClass) : Type 0 where
+  pub filled : (c : SignedClass) → In c L → FilledDown p n L c

@@ -79,6 +79,7 @@ joined-level-requires c κs =
       s .pre .2,
       s .pre .3,
       x-fits k,
+      s .pre .6 .filled (classOf (x k)) listed,
       (λ few. s .pre .5 .stays (omega (arith, length-map codes classOf)) (classOf (x k)) listed),
     )
 
@@ -113,7 +114,8 @@ unfolding isFirst
 first-is c =
     let k = b (c .before .before) in
     c .is-centered .ensures
-    ∙ ap₂ isCentered (power-is (c .before) ∙ ap (λ (t : ℕ). p k ^ t) (level-is (c .before .before))) (read (c .before .before .before .before))
+    ∙ ap₂ isCentered (power-is (c .before) ∙ ap (λ (t : ℕ). p k ^ t) (level-is (c .before .before)))
+    (read (c .before .before .before .before))
 
 -- the number to store
 module _ (c : tie.After-shared-slice-known4 Inv-loop μ-loop) where

@@ -14,7 +14,8 @@ use Rattle.solver.specs.inner.Code.{code, classOf}
 use Rattle.solver.specs.inner.Start.{codesOf}
 use Rattle.solver.proofs.Codes.{sorted-front}
 use Rattle.solver.proofs.Top.{top-at}
-use Rattle.solver.proofs.Among.{foundClasses, signedClasses, found-few, found-fit, found-back, found-stay, found-joined}
+use Rattle.solver.proofs.Among.{foundClasses, signedClasses, found-few, found-fit, found-back, found-joined}
+use Rattle.solver.proofs.Among.{found-stay, found-filled}
 use Rattle.solver.proofs.raise.classes_among.Statement.{statement}
 use Rattle.solver.proofs.raise.classes_among.Tie as tie
 
@@ -93,6 +94,7 @@ join-requires c κs =
       rw (codes-are s) (found-fit U (short a) (a .pre .3) (a .pre .4)),
       omega (arith, long, number s, few a, a .pre .5),
       rw (back s) (found-stay U (short a) (a .pre .3) (a .pre .4)),
+      rw (back s) (found-filled U (short a) (a .pre .3) (a .pre .4)),
     )
 
 -- Once they are joined
