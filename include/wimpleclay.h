@@ -165,11 +165,11 @@ typedef struct {
 } wimpleclay_raise_answer;
 
 /* The precision of a list raised from n to m, which is not below n: the roots modulo p^m that are congruent to a
-   modulo p^t for some given class a/t. The two given lists are classes modulo p^n, as the solver left them or as
-   given. All their entries are used, at most 64: pass k for both lengths; length 0 is fine and gives k = 0. The lists
-   to be filled must have the same length and be other memory than those given. The k classes of the shortest list at
-   precision m whose members are exactly these roots go into the first k slots, as wimpleclay_solve fills them, with
-   marks for the polynomial modulo p^m. Later slots keep their content.
+   modulo p^t for some given class a/t. The two given lists hold classes modulo p^n, as the solver left them or as
+   given. All entries are used, at most 64: pass the number of classes for both lengths; 0 is fine and gives k = 0. The
+   lists to be filled must have the same length and be other memory than those given. The k classes of the shortest
+   list at precision m whose members are exactly these roots go into the first k slots, as wimpleclay_solve fills them,
+   with marks for the polynomial modulo p^m. Later slots keep their content.
 
    Where the given list is the one that wimpleclay_solve fills at n, the result is the one that it fills at m. With
    another list, roots in no given class are left out, a given class that holds no root adds nothing, and where classes

@@ -124,17 +124,11 @@ static void test_drawn(uint32_t p, uint32_t n, int polynomials)
     }
 }
 
-/* A modulus that is too large for trial: drawn coefficients, many of them extreme, times some x - a, a common factor. */
+/* A modulus that is too large for trial. */
 static void test_large(uint32_t p, uint32_t n)
 {
     call c = {.what = "counts: agrees with the solver", .p = p, .n = n};
-    uint32_t m = (uint32_t)power(p, n);
-    for (size_t last = draw(2) ? draw(5) : 50 + draw(COEFFICIENTS - 50); c.count <= last; c.count++)
-        c.f[c.count] = draw(2) ? draw_coefficient(p, n) : draw(2) ? INT64_MIN : INT64_MAX;
-    for (uint64_t roots = draw(12); roots > 0 && c.count < COEFFICIENTS; roots--)
-        c.count = times_root(c.f, c.count, (uint32_t)(draw(4) ? draw(9) : draw(m / 4)), m);
-    if (draw(2))
-        times_power(c.f, c.count, p, n);
+    c.count = draw_large_polynomial(p, n, c.f);
     count_by_solver(&c);
     test_call(&c);
 }

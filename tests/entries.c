@@ -96,6 +96,17 @@ static const entries lists[] = {
     {"the first of two faults", 3, 2, 3, {-1, 5, -1}, {1, 2, 1}, {7, 1}, 0},
 };
 
+/* The answer where the list is raised from n to n, for the polynomial 0. */
+static refusal raised(const entries *c)
+{
+    static const int64_t zero[] = {0};
+    int32_t residues[ENTRIES];
+    uint8_t levels[ENTRIES], marks[ENTRIES];
+    wimpleclay_raise_answer a = wimpleclay_raise(zero, 1, c->p, c->n, c->n, c->residues, c->k, c->levels, c->k,
+                                                 residues, ENTRIES, levels, ENTRIES, marks, ENTRIES);
+    return (refusal){a.number, a.place};
+}
+
 static void test_entries(const entries *c)
 {
     static list l;
@@ -107,6 +118,9 @@ static void test_entries(const entries *c)
     memcpy(l.levels, c->levels, sizeof c->levels);
     refusal by_trial = refused_list(c->p, c->n, &l, c->k, c->k, NULL);
     expect(by_trial.number == r->number && by_trial.place == r->place, c->what);
+
+    refusal by_raise = raised(c);
+    expect(by_raise.number == r->number && by_raise.place == r->place, c->what);
 
     wimpleclay_next_answer next = wimpleclay_next_root(c->p, c->n, c->residues, c->k, c->levels, c->k, 0);
     expect(next.number == r->number && next.place == r->place, c->what);

@@ -10,6 +10,8 @@ int main(void)
     test_solving();
     test_points();
     test_counts();
+    test_raised_cases();
+    test_raised();
     test_lists();
     test_ones();
     test_texts();

@@ -16,9 +16,30 @@ static void judge(refusal r, uint32_t number, size_t place, const char *what)
         expect(number != 4 && number != 14 && number != 5, what);
 }
 
+static const int64_t one[] = {1};
+
+/* Raising from n to m, with given lists that differ in length. */
+static void test_raise(refusal r, uint32_t p, uint32_t n, uint32_t m)
+{
+    loan given_residues = lend(NULL, SLOTS * sizeof(int32_t)), given_levels = lend(NULL, SLOTS - 1);
+    loan residues = lend(NULL, SLOTS * sizeof(int32_t)), levels = lend(NULL, SLOTS), marks = lend(NULL, SLOTS);
+    wimpleclay_raise_answer a =
+        wimpleclay_raise(one, 1, p, n, m, lent(&given_residues), SLOTS, lent(&given_levels), SLOTS - 1,
+                         lent(&residues), SLOTS, lent(&levels), SLOTS, lent(&marks), SLOTS);
+    judge(r, a.number, a.place, "raise: p, n and m");
+    expect(a.classes == 0 && a.roots == 0, "raise: 0 in a refusal");
+    expect(kept_from(&given_residues, 0) && kept_from(&given_levels, 0), "raise: the given lists are kept");
+    expect(kept_from(&residues, 0) && kept_from(&levels, 0) && kept_from(&marks, 0),
+           "raise: a refusal writes nothing");
+    end_loan(&given_residues);
+    end_loan(&given_levels);
+    end_loan(&residues);
+    end_loan(&levels);
+    end_loan(&marks);
+}
+
 static void test_pair(uint32_t p, uint32_t n)
 {
-    static const int64_t one[] = {1};
     refusal r = refused_modulus(p, n);
     loan residues = lend(NULL, SLOTS * sizeof(int32_t)), levels = lend(NULL, SLOTS), marks = lend(NULL, SLOTS - 1);
     loan bytes = lend(NULL, BYTES), queries = lend(NULL, SLOTS * sizeof(wimpleclay_query));
@@ -55,6 +76,8 @@ static void test_pair(uint32_t p, uint32_t n)
     end_loan(&bytes);
     end_loan(&queries);
     end_loan(&counts);
+    test_raise(r, p, n, n);
+    test_raise(r, p, 1, n);
 }
 
 void test_moduli(void)

@@ -92,12 +92,20 @@ static int above_range(int64_t z, uint64_t q)
     return 2 * z > (int64_t)q;
 }
 
-void solve_by_trial(const int64_t *f, size_t count, uint32_t p, uint32_t n, list *s)
+int in_list(uint32_t p, const list *l, int64_t x)
+{
+    for (size_t i = 0; i < l->k; i++)
+        if ((x - l->residues[i]) % (int64_t)power(p, l->levels[i]) == 0)
+            return 1;
+    return 0;
+}
+
+void raise_by_trial(const int64_t *f, size_t count, uint32_t p, uint32_t n, const list *given, list *s)
 {
     uint64_t m = power(p, n);
     memset(s, 0, sizeof *s);
     for (uint64_t r = 0; r < m; r++) {
-        s->member[r] = value(f, count, r, m) == 0;
+        s->member[r] = value(f, count, r, m) == 0 && in_list(p, given, (int64_t)r);
         s->members += s->member[r];
     }
     for (int64_t z = -(int64_t)m; z <= (int64_t)m; z++)
@@ -110,6 +118,12 @@ void solve_by_trial(const int64_t *f, size_t count, uint32_t p, uint32_t n, list
             s->levels[s->k] = (uint8_t)t;
             s->marks[s->k++] = mark(f, count, z, step, p, m);
         }
+}
+
+void solve_by_trial(const int64_t *f, size_t count, uint32_t p, uint32_t n, list *s)
+{
+    static const list everything = {.k = 1};
+    raise_by_trial(f, count, p, n, &everything, s);
 }
 
 /* Adds to g the coefficients modulo m of f(a + q y) in y, those of f[i] (a + q y)^i for each i. */

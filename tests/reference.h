@@ -52,6 +52,12 @@ uint64_t count_by_trial(const int64_t *f, size_t count, uint64_t m);
 /* The root classes of f: the whole classes that lie in no larger whole class, rising by the residue of least size. */
 void solve_by_trial(const int64_t *f, size_t count, uint32_t p, uint32_t n, list *s);
 
+/* Whether x is in a class of the list: congruent to its residue modulo p to the power of its level. */
+int in_list(uint32_t p, const list *l, int64_t x);
+
+/* The same for the roots of f modulo p^n that are in the given classes. */
+void raise_by_trial(const int64_t *f, size_t count, uint32_t p, uint32_t n, const list *given, list *s);
+
 /* The number of live classes of f. Everything is live. A live class a/t has the polynomial f(a + p^t y), coefficients modulo p^n; if they
    are all zero it is finished. Otherwise divide by the largest power of p common to them, and for each digit c where the quotient is a
    multiple of p, the class of a + p^t c at level t + 1 is live. */

@@ -6,6 +6,8 @@ void test_moduli(void);
 void test_solving(void);
 void test_points(void);
 void test_counts(void);
+void test_raised_cases(void);
+void test_raised(void);
 void test_lists(void);
 void test_ones(void);
 void test_texts(void);

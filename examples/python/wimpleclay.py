@@ -19,6 +19,17 @@ The number of solutions modulo 1, p, p^2, ..., p^n:
 >>> counts([-1, 0, 1], 2, 4)
 [1, 1, 2, 4, 4]
 
+The classes at one precision raised to a higher one, and other lists of classes, of which the roots in them are kept:
+
+>>> raise_precision([-1, 0, 1], 2, 3, 4, classes([-1, 0, 1], 2, 3))
+[Class(residue=-1, level=3, mark=0), Class(residue=1, level=3, mark=0)]
+>>> raise_precision([1, 0, 1], 5, 1, 2, [(2, 1)])
+[Class(residue=7, level=2, mark=1)]
+>>> raise_precision([1, 0, 1], 5, 1, 2, [])
+[]
+>>> raise_precision([0], 2, 1, 3, [(0, 1), (1, 1)])
+[Class(residue=0, level=0, mark=0)]
+
 Many points are tested in one call. A point that is not below p^n has the answer None:
 
 >>> test_points([-1, 0, 1], 2, 4, [0, 1, 7, 16, 9])
@@ -49,6 +60,10 @@ wimpleclay.Refused: rule 5, place 0
 Traceback (most recent call last):
     ...
 wimpleclay.Refused: rule 14: p is composite, least divisor 7
+>>> raise_precision([-1, 0, 1], 2, 4, 3, [(1, 1)])
+Traceback (most recent call last):
+    ...
+wimpleclay.Refused: rule 17, place 0
 
 The library is found as libwimpleclay.so on the loader's path, or where WIMPLECLAY_LIBRARY says.
 """
@@ -60,6 +75,7 @@ from ctypes import POINTER, c_int32, c_int64, c_size_t, c_uint8, c_uint32, c_uin
 from typing import NamedTuple
 
 MAX_CLASSES = 64
+MAX_RAISED = 128
 MAX_COUNTS = 32
 POINT = 8
 COMPOSITE = 14
@@ -135,28 +151,60 @@ _solve = _function(
 _is_root = _function("is_root", [("root", c_uint32)], (*_problem, c_uint32))
 _test_points = _function("test_points", [], (*_problem, *_list(_Query)))
 _counts = _function("counts", [], (*_problem, *_list(c_uint64)))
+_raise = _function(
+    "raise",
+    [("classes", c_size_t), ("roots", c_uint64)],
+    (*_problem, c_uint32, *_residues, *_levels, *_residues, *_levels, *_marks),
+)
 _next_root = _function(
     "next_root", [("found", c_uint32), ("root", c_uint32)], (c_uint32, c_uint32, *_residues, *_levels, c_uint32)
 )
 
 
+def _lent(of, code, values):
+    """The values as they are lent, and their number; one that the type does not hold is an OverflowError."""
+    row = array(code, values)
+    return (of * len(row)).from_buffer(row), len(row)
+
+
 def _row(coefficients):
-    """The coefficients as they are lent; one that is no signed 64-bit integer is an OverflowError."""
-    row = array("q", coefficients)
-    return (c_int64 * len(row)).from_buffer(row), len(row)
+    """The coefficients as they are lent."""
+    return _lent(c_int64, "q", coefficients)
+
+
+def _lists(slots):
+    """Lists to be filled, and the same as they are lent."""
+    lists = [(of * slots)() for of in (c_int32, c_uint8, c_uint8)]
+    return lists, [x for one in lists for x in (one, slots)]
+
+
+def _classes(answer, lists):
+    """The classes in lists that are filled."""
+    return [Class(*one) for one in zip(*lists)][: answer.classes]
 
 
 def _solved(coefficients, p, n):
     """The solver's answer, and its lists."""
-    lists = [(of * MAX_CLASSES)() for of in (c_int32, c_uint8, c_uint8)]
-    lent = [x for one in lists for x in (one, MAX_CLASSES)]
+    lists, lent = _lists(MAX_CLASSES)
     return _solve(*_row(coefficients), p, n, *lent), lists
 
 
 def classes(coefficients, p, n):
     """The root classes, rising by residue: the shortest list there is."""
-    answer, lists = _solved(coefficients, p, n)
-    return [Class(*one) for one in zip(*lists)][: answer.classes]
+    return _classes(*_solved(coefficients, p, n))
+
+
+def raise_precision(coefficients, p, n, m, classes):
+    """The root classes modulo p^m of the roots in the given classes, a list at precision n: the shortest list there is.
+
+    A given class is a Class or a pair of residue and level; there are at most 64. Where they are classes(coefficients, p, n), the result is
+    classes(coefficients, p, m).
+    """
+    given = list(classes)
+    residues = _lent(c_int32, "i", [one[0] for one in given])
+    levels = _lent(c_uint8, "B", [one[1] for one in given])
+    lists, lent = _lists(MAX_RAISED)
+    return _classes(_raise(*_row(coefficients), p, n, m, *residues, *levels, *lent), lists)
 
 
 def count(coefficients, p, n):

@@ -1,7 +1,8 @@
 // 01's cases, executed. Standard input has a line for each, in four parts: the operation's letter and the numbers of slots, if not 65;
 // after a ; the coefficients; after a | the call; after a : the expected answer. Call and answer are printed, and the last line counts the
-// answers that differ. The letters: s solver, l the solver's number of live classes, e counts at every precision, t test, q test of eight
-// points, n next, m map, c count of bytes, d count of the map of 0/1, w writer, r stepping, h simple digits.
+// answers that differ. The letters: s solver, l the solver's number of live classes, e counts at every precision, u raise of a list (after
+// the slots the lengths of the given lists, if not those of the call), t test, q test of eight points, n next, m map, c count of bytes, d
+// count of the map of 0/1, w writer, r stepping, h simple digits.
 //
 // A number modulo a bound above its range, as in `at % 256`, is the number: the checker then needs no proof of the range.
 mod answer;
@@ -13,6 +14,7 @@ mod maps;
 mod next;
 mod points;
 mod prefix;
+mod raising;
 mod rows;
 mod simple;
 mod solving;
@@ -71,6 +73,7 @@ fn answer_to(
         b's' => solving::solve(operation, f, given.count, call, slots, expected),
         b'l' => solving::solve(operation, f, given.count, call, slots, expected),
         b'e' => counts::count(f, given.count, call, slots, expected),
+        b'u' => raising::raise(residues, levels, f, given.count, call, slots, expected),
         b't' => solving::test(f, given.count, call),
         b'q' => points::test(f, given.count, call, said, expected),
         b'r' => steps::steps(f, given.count, call, expected),

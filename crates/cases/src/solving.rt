@@ -10,7 +10,7 @@ use solver::Solved;
 use solver::Tested;
 
 // The number of slots of a list: 65 where none is given.
-fn slots(row: Row, i: usize) -> usize {
+pub(crate) fn slots(row: Row, i: usize) -> usize {
     if row.count == 0 {
         65
     } else {

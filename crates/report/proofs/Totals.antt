@@ -5,7 +5,7 @@ use native.Mathlib.Omega.{arith}
 use lib.Dec.{eqb}
 use Rattle.refusal.specs.declared.Refusal.{Refusal}
 use Rattle.refusal.specs.declared.Refusal.the-variants.{Form, NoCoefficient, TooManyCoefficients}
-use Rattle.refusal.specs.declared.Refusal.the-variants.{PrimeOutOfRange, Composite, Precision, Lengths, Entry, Point}
+use Rattle.refusal.specs.declared.Refusal.the-variants.{PrimeOutOfRange, Composite, Precision, PrecisionsFall, Lengths, Entry, Point}
 use Rattle.refusal.specs.declared.Refusal.the-variants.{MapTooLarge, MapLength, TooFewSlots, BufferTooSmall, TooManyProblems}
 use Rattle.refusal.specs.Number.{placeOf}
 use Rattle.report.specs.declared.step.Totals.{Totals}
@@ -40,6 +40,7 @@ from-start-place at TooManyCoefficients = omega arith
 from-start-place at PrimeOutOfRange = omega arith
 from-start-place at (Composite divisor) = omega arith
 from-start-place at Precision = omega arith
+from-start-place at PrecisionsFall = omega arith
 from-start-place at (Lengths place) = omega arith
 from-start-place at (Entry place) = omega arith
 from-start-place at Point = omega arith

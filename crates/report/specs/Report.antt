@@ -8,7 +8,7 @@ use lib.ListN.{take, drop}
 use Rattle.theory.specs.Counts.{solutions, countsBelow, countRow}
 use Rattle.refusal.specs.declared.Refusal.{Refusal}
 use Rattle.refusal.specs.declared.Refusal.the-variants.{Form, NoCoefficient, TooManyCoefficients}
-use Rattle.refusal.specs.declared.Refusal.the-variants.{PrimeOutOfRange, Composite, Precision, Lengths, Entry, Point}
+use Rattle.refusal.specs.declared.Refusal.the-variants.{PrimeOutOfRange, Composite, Precision, PrecisionsFall, Lengths, Entry, Point}
 use Rattle.refusal.specs.declared.Refusal.the-variants.{MapTooLarge, MapLength, TooFewSlots, BufferTooSmall, TooManyProblems}
 use Rattle.refusal.specs.Rules.{tried}
 use Rattle.numbers.specs.Modulus.{modulusRules}
@@ -44,6 +44,7 @@ fromStart at TooManyCoefficients = TooManyCoefficients
 fromStart at PrimeOutOfRange = PrimeOutOfRange
 fromStart at (Composite divisor) = Composite divisor
 fromStart at Precision = Precision
+fromStart at PrecisionsFall = PrecisionsFall
 fromStart at (Lengths place) = Lengths place
 fromStart at (Entry place) = Entry place
 fromStart at Point = Point

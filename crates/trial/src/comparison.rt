@@ -3,22 +3,17 @@ use crate::bound;
 use crate::coefficients::Polynomial;
 use crate::content;
 use crate::counts;
+use crate::entries;
 use crate::library;
 use crate::lifts;
 use crate::listed;
 use crate::live;
 use crate::mapped;
-use crate::marks;
 use crate::modular::Modulus;
-use crate::modular::multiply_add;
-use crate::modular::power;
 use crate::plain;
 use crate::plain::Roots;
 use crate::points;
-use crate::signed::difference;
-use crate::signed::is_least;
-use crate::table::byte;
-use crate::table::residue;
+use crate::raised;
 use crate::tally;
 use crate::tally::Tally;
 
@@ -60,37 +55,6 @@ fn residues(
     tally
 }
 
-// The classes and their marks one after the other, and their number; h has the coefficients divided by p^s. The list rises by residue, so
-// the numbers from −m to m − 1 are tried in turn, each as a − m, where a is congruent to it modulo m.
-fn classes(
-    h: [u32; 65],
-    c: usize,
-    x: Modulus,
-    roots: Roots,
-    residues: [i32; 65],
-    levels: [u8; 65],
-    marks: [u8; 65],
-    k: usize,
-    mut tally: Tally,
-) -> Tally {
-    let end = x.m % 513 * 2;
-    let mut i: usize = 0;
-    let mut a: u32 = 0;
-    while a < end {
-        let t = listed::level(roots, x, a);
-        let q = power(x.p, t);
-        if (t <= x.n) & is_least(a, x.m, q) {
-            let same = (residue(residues, i) == difference(a, x.m)) & (byte(levels, i) == t);
-            let mark = marks::mark(h, c, multiply_add(a, 1, 0, q), q, x);
-            tally = tally.compare(tally::ENTRY, same);
-            tally = tally.compare(tally::MARK, byte(marks, i) == mark);
-            i = i % 512 + 1;
-        }
-        a += 1;
-    }
-    tally.compare(tally::CLASSES, i == k)
-}
-
 // All comparisons for a polynomial modulo m, which is at most 512.
 pub(crate) fn run(polynomial: Polynomial, x: Modulus, mut tally: Tally) -> Tally {
     let c = polynomial.c;
@@ -120,6 +84,7 @@ pub(crate) fn run(polynomial: Polynomial, x: Modulus, mut tally: Tally) -> Tally
     tally = points::compare(f, c, x, roots, tally);
     tally = counts::compare(f, g, c, x, roots, tally);
     tally = residues(polynomial, list, levels, k, x, roots, tally);
-    tally = classes(h, c, x, roots, list, levels, marks, k, tally);
+    tally = entries::compare(h, c, x, roots, s, tally::CLASSES, tally);
+    tally = raised::compare(f, h, c, x, roots, s, tally);
     mapped::compare(list, levels, k, x, roots, tally)
 }

@@ -5,6 +5,7 @@ use classes::Next;
 use rootmap::Counted;
 use rootmap::Mapped;
 use solver::Query;
+use solver::Raised;
 use solver::Solved;
 use solver::Tested;
 
@@ -45,6 +46,43 @@ pub(crate) fn solve(f: [i64; 65], c: usize, x: Modulus) -> Solution {
             marks,
         },
         Solved::Refused(_) => Solution {
+            k: 65,
+            roots: 0,
+            live: 0,
+            residues,
+            levels,
+            marks,
+        },
+    }
+}
+
+// The answer for the classes of a list at precision j, raised to n; every slot holds 77 before the call.
+pub(crate) fn raise(f: [i64; 65], c: usize, x: Modulus, j: u32, given: Solution) -> Solution {
+    let given_residues = given.residues;
+    let given_levels = given.levels;
+    let mut residues = [77i32; 65];
+    let mut levels = [77u8; 65];
+    let mut marks = [77u8; 65];
+    match solver::raise_precision(
+        prefix::coefficients(&f, c),
+        x.p,
+        j,
+        x.n,
+        prefix::words(&given_residues, given.k),
+        prefix::bytes(&given_levels, given.k),
+        &mut residues,
+        &mut levels,
+        &mut marks,
+    ) {
+        Raised::Found { classes, roots } => Solution {
+            k: classes,
+            roots,
+            live: 0,
+            residues,
+            levels,
+            marks,
+        },
+        Raised::Refused(_) => Solution {
             k: 65,
             roots: 0,
             live: 0,

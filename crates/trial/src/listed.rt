@@ -26,6 +26,9 @@ fn is_whole(roots: Roots, r: u32, q: u32, members: u32) -> bool {
 // The level of the largest whole class of r, and n + 1 where r is no root.
 pub(crate) fn level(roots: Roots, x: Modulus, r: u32) -> u32 {
     let none = x.n % 64 + 1;
+    if roots.at(multiply_add(r, 1, 0, x.m)) == 0 {
+        return none;
+    }
     let mut t: u32 = 0;
     while t < none {
         let q = power(x.p, t);

@@ -10,7 +10,9 @@ mod comparison;
 mod content;
 mod counts;
 mod drawn;
+mod entries;
 mod factors;
+mod given;
 mod library;
 mod lifts;
 mod listed;
@@ -22,6 +24,7 @@ mod plain;
 mod points;
 mod prefix;
 mod products;
+mod raised;
 mod random;
 mod signed;
 mod small;
@@ -82,7 +85,7 @@ fn families(x: Modulus, c: u32, mut tally: Tally) -> Tally {
 }
 
 fn main() {
-    let mut tally = Tally { counts: [0; 40] };
+    let mut tally = Tally { counts: [0; 52] };
     let mut i: usize = 0;
     while i < 25 {
         let row = ROWS[i];

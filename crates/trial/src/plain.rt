@@ -29,6 +29,10 @@ pub(crate) struct Roots {
 }
 
 impl Roots {
+    pub(crate) fn new(count: u32, at: [u8; 520]) -> Roots {
+        Roots { count, at }
+    }
+
     // 1 if r is a root, otherwise 0.
     pub(crate) fn at(self, r: u32) -> u8 {
         let i = r as usize;

@@ -4,7 +4,7 @@ use std::num::wrapping_add_u64;
 
 // The number of comparisons of each kind, and after it the number of differences.
 pub(crate) struct Tally {
-    pub(crate) counts: [u64; 40],
+    pub(crate) counts: [u64; 52],
 }
 
 // The kinds, as places in the table.
@@ -16,11 +16,8 @@ pub(crate) const TEST: usize = 2;
 
 pub(crate) const ACCEPTED: usize = 4;
 
+// The number of classes of a list; its entries and their marks are the next two.
 pub(crate) const CLASSES: usize = 6;
-
-pub(crate) const ENTRY: usize = 8;
-
-pub(crate) const MARK: usize = 10;
 
 pub(crate) const UNUSED: usize = 12;
 
@@ -48,13 +45,22 @@ pub(crate) const POINT: usize = 34;
 
 pub(crate) const COUNTS: usize = 36;
 
-const DIFFERENCES: usize = 38;
+// The same of a raised list.
+pub(crate) const RAISED_CLASSES: usize = 38;
+
+pub(crate) const RAISED_MEMBER: usize = 44;
+
+pub(crate) const RAISED_ROOTS: usize = 46;
+
+pub(crate) const RAISED: usize = 48;
+
+const DIFFERENCES: usize = 50;
 
 impl Tally {
     // x more at a place.
     pub(crate) fn add(self, i: usize, x: u64) -> Tally {
         let mut counts = self.counts;
-        if i < 40 {
+        if i < 52 {
             counts[i] = wrapping_add_u64(counts[i], x);
         }
         Tally { counts }
@@ -64,15 +70,27 @@ impl Tally {
     pub(crate) fn compare(self, kind: usize, same: bool) -> Tally {
         let differ = !same as u64;
         self.add(kind, 1)
-            .add(kind % 40 + 1, differ)
+            .add(kind % 52 + 1, differ)
             .add(DIFFERENCES, differ)
+    }
+
+    // So many comparisons of a kind, of which so many differed.
+    pub(crate) fn compare_many(self, kind: usize, count: u32, differ: u32) -> Tally {
+        self.add(kind, count as u64)
+            .add(kind % 52 + 1, differ as u64)
+            .add(DIFFERENCES, differ as u64)
+    }
+
+    // The number of polynomials so far.
+    pub(crate) fn polynomials(self) -> u32 {
+        (self.counts[POLYNOMIALS] % 4294967296) as u32
     }
 
     // Prints a byte of the form: the number at a place for #. The place after it.
     fn put(self, b: u8, place: usize) -> usize {
         if b == b'#' {
-            io::print_decimal(STDOUT_FILENO, self.counts[place % 40]);
-            return place % 40 + 1;
+            io::print_decimal(STDOUT_FILENO, self.counts[place % 52]);
+            return place % 52 + 1;
         }
         io::write_all(STDOUT_FILENO, &[b]);
         place
@@ -100,6 +118,12 @@ bit of the map: # compared, # differ
 count of the map: # compared, # differ
 one of many points: # compared, # differ
 count at a precision: # compared, # differ
+number of classes of a raised list: # compared, # differ
+residue and level of a raised class: # compared, # differ
+mark of a raised class: # compared, # differ
+member of a raised class exactly if a root of a given class: # compared, # differ
+root count of a raised list, later slots kept: # compared, # differ
+solver's list raised: # compared, # differ
 differences in all: #
 ";
         let mut place: usize = 0;

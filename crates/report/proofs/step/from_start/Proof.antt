@@ -9,7 +9,7 @@ use denote.Enum.Declared
 use Rattle.refusal.proofs.Refusal.{the-type}
 use Rattle.refusal.specs.declared.Refusal.{Refusal}
 use Rattle.refusal.specs.declared.Refusal.the-variants.{Form, NoCoefficient, TooManyCoefficients}
-use Rattle.refusal.specs.declared.Refusal.the-variants.{PrimeOutOfRange, Composite, Precision, Lengths, Entry, Point}
+use Rattle.refusal.specs.declared.Refusal.the-variants.{PrimeOutOfRange, Composite, Precision, PrecisionsFall, Lengths, Entry, Point}
 use Rattle.refusal.specs.declared.Refusal.the-variants.{MapTooLarge, MapLength, TooFewSlots, BufferTooSmall, TooManyProblems}
 use Rattle.refusal.specs.Number.{placeOf}
 use Rattle.report.specs.Report.{fromStart}
@@ -18,13 +18,14 @@ use Rattle.report.proofs.step.from_start.Tie as tie
 
 -- the rules other than 1
 others : (at : ℕ) (r : Refusal)
-    → OneOf (1 ∷ 2 ∷ 3 ∷ 4 ∷ 5 ∷ 6 ∷ 7 ∷ 8 ∷ 9 ∷ 10 ∷ 11 ∷ 12 ∷ 13 ∷ []) (Declared.tagOf the-type r) → r ≡ fromStart at r
-others at (Form place) o = absurd (miss (1 ∷ 2 ∷ 3 ∷ 4 ∷ 5 ∷ 6 ∷ 7 ∷ 8 ∷ 9 ∷ 10 ∷ 11 ∷ 12 ∷ 13 ∷ []) 0 tt o)
+    → OneOf (1 ∷ 2 ∷ 3 ∷ 4 ∷ 5 ∷ 6 ∷ 7 ∷ 8 ∷ 9 ∷ 10 ∷ 11 ∷ 12 ∷ 13 ∷ 14 ∷ []) (Declared.tagOf the-type r) → r ≡ fromStart at r
+others at (Form place) o = absurd (miss (1 ∷ 2 ∷ 3 ∷ 4 ∷ 5 ∷ 6 ∷ 7 ∷ 8 ∷ 9 ∷ 10 ∷ 11 ∷ 12 ∷ 13 ∷ 14 ∷ []) 0 tt o)
 others at NoCoefficient o = refl
 others at TooManyCoefficients o = refl
 others at PrimeOutOfRange o = refl
 others at (Composite divisor) o = refl
 others at Precision o = refl
+others at PrecisionsFall o = refl
 others at (Lengths place) o = refl
 others at (Entry place) o = refl
 others at Point o = refl
