@@ -15,7 +15,8 @@ use Rattle.refusal.specs.Rules.{passes, tried}
 use Rattle.refusal.proofs.Rules.{tried-first, rule-passes}
 use Rattle.numbers.specs.declared.Modulus.the-variants.{Refused}
 use Rattle.numbers.specs.Modulus.{rule4, rule14, modulusOf}
-use Rattle.numbers.proofs.Rules.{outOfRange, notPrecise, in-range-two, modulus-4, modulus-14, left-to-5, precision-5, precision-passes}
+use Rattle.numbers.proofs.Rules.{outOfRange, notPrecise, in-range-two, modulus-4, modulus-14}
+use Rattle.numbers.proofs.Rules.{left-to-5, precision-5, precision-passes}
 
 -- "p = 4, refused 4 in 01's cases, now gets 14 with place 2", whatever n is
 pub four-is-composite : (n : ℕ) → modulusOf 4 n ≡ Refused (Composite 2)

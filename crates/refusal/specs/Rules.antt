@@ -18,7 +18,8 @@ abbrev pub rule : Bool → Refusal → Verdict
 rule true r = refuses r
 rule false r = passes
 
--- "The rules are tried by rising number, and the first that applies is the refusal"; 02 puts 14 "directly after 4" and 17 "directly after rule 5"
+-- "The rules are tried by rising number, and the first that applies is the refusal"; 02 puts 14 "directly after 4" and 17 "directly after
+-- rule 5"
 abbrev pub tried : List Verdict → Verdict
 tried [] = passes
 tried (passes ∷ rules) = tried rules

@@ -58,12 +58,14 @@ module _ (p n : ℕ) (residues : List ℤ) (levels : List ℕ) (l : LentLengths)
 
     pub list-accepted : (x : ℕ) → checkedOf p n residues levels ≡ Accepted x → Accepted q ≡ listsModulus p n residues levels l q
     list-accepted x f =
-        let (v, _) = accepted-means (tried (rule7 p n (classesOf residues levels) ∷ [])) (p ^ n) x (sym (checked-7 p n residues levels same U) ∙ f) in
+        let seven = tried (rule7 p n (classesOf residues levels) ∷ []) in
+        let (v, _) = accepted-means seven (p ^ n) x (sym (checked-7 p n residues levels same U) ∙ f) in
         sym (left-to-7 ∙ ap (λ (v : Verdict). powerOr v q) v)
 
     pub list-refused : (r : Refusal) → checkedOf p n residues levels ≡ Refused r → Refused r ≡ listsModulus p n residues levels l q
     list-refused r f =
-        let v = refused-means (tried (rule7 p n (classesOf residues levels) ∷ [])) (p ^ n) r (sym (checked-7 p n residues levels same U) ∙ f) in
+        let seven = tried (rule7 p n (classesOf residues levels) ∷ []) in
+        let v = refused-means seven (p ^ n) r (sym (checked-7 p n residues levels same U) ∙ f) in
         sym (left-to-7 ∙ ap (λ (v : Verdict). powerOr v q) v)
 
 -- From rule 5 for m on

@@ -31,7 +31,8 @@ raised f p m G = signedList (rootsAmong f p m G) p m
 abbrev pub raisedMarks : List ℤ → ℕ → (m : ℕ) → List SignedClass → List ℕ
 raisedMarks f p m G = map (λ c. mark f p m (natural p c)) (raised f p m G)
 
--- "Rule 6 looks at the given lists, then at those to be filled", which have the lengths a, b and c; the given list "passes rules 6 and 7 at n"
+-- "Rule 6 looks at the given lists, then at those to be filled", which have the lengths a, b and c; the given list "passes rules 6 and 7 at
+-- n"
 abbrev pub listsRules : ℕ → (n : ℕ) → List ℤ → List ℕ → (a b c : ℕ) → List Verdict
 listsRules p n residues levels a b c =
     rule6 (length residues) (length levels) ∷ rule6Three a b c ∷ rule7 p n (classesOf residues levels) ∷ []

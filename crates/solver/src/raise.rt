@@ -28,8 +28,8 @@ pub enum Raised {
 
 // The roots modulo p^m that are members of the given classes, a list at precision n: residues of least size, levels and marks of the
 // shortest list of them go into the first slots of the three lists, rising by residue; later slots keep their content. Where the given list
-// is the solver's at n, that is the solver's at m. Rules 2, 3, 4, 14, 5 for n, 5 for m, 17, 6 for the given lists, 6 for those to be filled,
-// 7 and 11; a refusal alters nothing.
+// is the solver's at n, that is the solver's at m. Rules 2, 3, 4, 14, 5 for n, 5 for m, 17, 6 for the given lists, 6 for those to be
+// filled, 7 and 11; a refusal alters nothing.
 pub fn raise_precision(
     coefficients: &[i64],
     p: u32,
@@ -89,7 +89,8 @@ fn check_raise(
     given_levels: &[u8],
     lengths: LentLengths,
 ) -> Modulus
-    ensures { λ r. ⌜ r ≡ raiseModulus (now (coefficients .entry)) p n m (now («given_residues» .entry)) (now («given_levels» .entry)) lengths ⌝ }
+    ensures { λ r. ⌜ r ≡ raiseModulus (now (coefficients .entry)) p n m (now («given_residues» .entry)) (now («given_levels» .entry))
+        lengths ⌝ }
 {
     match crate::check_polynomial(coefficients, p, n) {
         Modulus::Accepted(_) => check_given(p, n, m, given_residues, given_levels, lengths),
@@ -150,8 +151,8 @@ fn check_lists(
 }
 
 // The classes of the zeros modulo m = pⁿ of the first c coefficients of the row that lie in the given classes: their codes go, rising, into
-// the first entries of `codes`. Their number: of each given class and of the zeros' own list there are at most 64 classes, and one more given
-// class needs room for 64 while it is searched.
+// the first entries of `codes`. Their number. At most 64 classes of the zeros' own list and 64 given ones are found, and a given class that
+// is searched needs room for 64 meanwhile.
 fn classes_among(
     row: [u32; 65],
     c: usize,

@@ -81,5 +81,5 @@ pub unusable-spec : {M : Type 1} → statement M
 unusable-spec =
     tie.close
     (tie.spec (λ c. search needs) (λ c. record { fits = omega (arith, c .shared-slice-known2 .given (c .before .before .args .i)) }) returns
-    (λ c. search needs) (λ c. search needs) (λ c κs. search needs) cast-is-centered (λ c κs. search needs) returns-2 returns-3 (λ c. search needs)
-    (λ c. search needs) (λ c. search needs) (λ c. search needs) (λ c. search needs) returns-4)
+    (λ c. search needs) (λ c. search needs) (λ c κs. search needs) cast-is-centered (λ c κs. search needs) returns-2 returns-3
+    (λ c. search needs) (λ c. search needs) (λ c. search needs) (λ c. search needs) (λ c. search needs) returns-4)

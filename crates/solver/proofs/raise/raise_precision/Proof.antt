@@ -83,7 +83,8 @@ returns c =
     let U = raise-usable (f a) (p a) (n a) (m a) (starts a) (depths a) (given a) (q k) (accepted k) in
     let w = row-is (f a) U (row .reduced .ensures) in (
       rw (raised-is (f a) (p a) (n a) (m a) (starts a) (depths a) (given a) (q k) (accepted k), ← w) (done .raise-reduced .ensures .0),
-      rw (raised-lists-are (f a) (p a) (n a) (m a) (starts a) (depths a) (given a) (q k) (accepted k), ← w) (done .raise-reduced .ensures .1),
+      rw (raised-lists-are (f a) (p a) (n a) (m a) (starts a) (depths a) (given a) (q k) (accepted k), ← w)
+          (done .raise-reduced .ensures .1),
     )
 
 returns-2 : tie.Need-returns-2
