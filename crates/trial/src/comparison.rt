@@ -66,12 +66,11 @@ pub(crate) fn run(polynomial: Polynomial, x: Modulus, mut tally: Tally) -> Tally
     let s = library::solve(f, c, x);
     let list = s.residues;
     let levels = s.levels;
-    let marks = s.marks;
     let k = s.k;
     tally = tally.add(tally::POLYNOMIALS, 1);
     tally = tally.add(tally::RESIDUES, x.m as u64);
     tally = tally.compare(tally::ACCEPTED, k < 65);
-    tally = tally.compare(tally::UNUSED, listed::unused(list, levels, marks, k));
+    tally = tally.compare(tally::UNUSED, listed::unused(s));
     tally = tally.compare(tally::ROOTS, s.roots == roots.count as u64);
     tally = tally.compare(tally::LIVE, s.live == live::count(g, c, x) as u64);
     tally = tally.compare(tally::BOUND, bound::holds(h, x, k, s.live));

@@ -10,8 +10,8 @@ use std::num::wrapping_add_usize;
 // No level.
 const NONE: u32 = 255;
 
-// The level of the class of a in the list of number `seed`. A class of level u is in it whole, by those of level t in it, all or some, or
-// not at all.
+// The level of the class in the list of number `seed` that has a as a member. A class of level u is listed itself, or its classes of level
+// t are, all of them or some, or nothing is.
 fn level(seed: u32, a: u32, p: u32, u: u32, t: u32) -> u32 {
     let kind = draw(seed, multiply_add(a, 1, 0, power(p, u)), 6) % 4;
     match kind {

@@ -1,4 +1,5 @@
 // Whole classes by trial of their members, and the solver's list.
+use crate::library::Solution;
 use crate::modular::Modulus;
 use crate::modular::multiply_add;
 use crate::modular::power;
@@ -56,8 +57,11 @@ pub(crate) fn memberships(residues: [i32; 65], levels: [u8; 65], k: usize, p: u3
 }
 
 // Whether the slots from k on hold what they held before the call.
-pub(crate) fn unused(residues: [i32; 65], levels: [u8; 65], marks: [u8; 65], k: usize) -> bool {
-    let mut i = k;
+pub(crate) fn unused(s: Solution) -> bool {
+    let residues = s.residues;
+    let levels = s.levels;
+    let marks = s.marks;
+    let mut i = s.k;
     while i < 65 {
         if (residue(residues, i) != 77) | (byte(levels, i) != 77) | (byte(marks, i) != 77) {
             return false;

@@ -1,7 +1,7 @@
 // Small polynomials against plain trial of residues: every answer of the solver, of the test of one and of many points, of next and of the
-// map is compared with what evaluation at each residue gives, so are the counts at every precision, and the number of live classes with a
-// count by its definition. The roots above each simple digit are counted, and the class that holds them is looked at. The last line says
-// how many answers differ.
+// map is compared with what evaluation at each residue gives, so are the counts at every precision and lists raised to a higher one, and
+// the number of live classes with a count by its definition. The roots above each simple digit are counted, and the class that holds them
+// is looked at. The last line says how many answers differ.
 //
 // A number modulo a bound above its range, as in `c % 66`, is the number: the checker then needs no proof of the range.
 mod bound;

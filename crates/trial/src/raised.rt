@@ -76,7 +76,7 @@ fn misplaced(s: Solution, x: Modulus, wanted: Roots) -> u32 {
 }
 
 // A list raised from precision j, where h has the c coefficients of f divided by p^s.
-fn raise(
+fn compare_list(
     f: [i64; 65],
     h: [u32; 65],
     c: usize,
@@ -88,12 +88,8 @@ fn raise(
 ) -> Tally {
     let wanted = among(given, x, roots);
     let s = library::raise(f, c, x, j, given);
-    let residues = s.residues;
-    let levels = s.levels;
-    let marks = s.marks;
-    let kept = listed::unused(residues, levels, marks, s.k);
-    let whole = kept & (s.roots == wanted.count as u64);
-    tally = tally.compare(tally::RAISED_ROOTS, whole);
+    let same = listed::unused(s) & (s.roots == wanted.count as u64);
+    tally = tally.compare(tally::RAISED_ROOTS, same);
     tally = tally.compare_many(tally::RAISED_MEMBER, x.m, misplaced(s, x, wanted));
     entries::compare(h, c, x, wanted, s, tally::RAISED_CLASSES, tally)
 }
@@ -110,17 +106,17 @@ pub(crate) fn compare(
 ) -> Tally {
     let seed = tally.polynomials();
     let j = multiply_add(seed, 1, 0, x.n) % 64 + 1;
-    let at = Modulus {
+    let lower = Modulus {
         p: x.p,
         n: j,
         m: power(x.p, j),
     };
-    let list = library::raise(f, c, x, j, library::solve(f, c, at));
+    let list = library::raise(f, c, x, j, library::solve(f, c, lower));
     tally = tally.compare(tally::RAISED, same(list, s));
     if draw(seed, j, 5) % 2 == 0 {
         return tally;
     }
     let t = multiply_add(draw(seed, j, 8), 1, 0, j % 64 + 1);
     let u = multiply_add(draw(seed, j, 9), 1, 0, t % 64 + 1);
-    raise(f, h, c, x, j, given::drawn(seed, x.p, u, t), roots, tally)
+    compare_list(f, h, c, x, j, given::drawn(seed, x.p, u, t), roots, tally)
 }

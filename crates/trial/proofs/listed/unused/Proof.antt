@@ -5,10 +5,10 @@ use Rattle.trial.proofs.listed.unused.Statement.{statement}
 use Rattle.trial.proofs.listed.unused.Tie as tie
 
 abbrev Inv-loop : tie.InvT-loop
-Inv-loop residues levels marks k i₀ i = Unit {0}
+Inv-loop residues levels marks i₀ i = Unit {0}
 
 abbrev μ-loop : tie.MeasureT-loop
-μ-loop residues levels marks k i₀ i = 65 - i
+μ-loop residues levels marks i₀ i = 65 - i
 
 pub unused-spec : {M : Type 1} → statement M
 unused-spec =
