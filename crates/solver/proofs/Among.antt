@@ -77,7 +77,7 @@ module _ {w : List ℕ} {p n m : ℕ} (U : Usable p n m) (short : length w ≤ 6
       let (d, v, e) = in-map (signed p) foundClasses c u in rw e (signed-class p n hp d (found-apart .classes d v))
 
   -- as numbers
-  pub found-codes : codesOf p foundClasses ≡ map code signedClasses
+  found-codes : codesOf p foundClasses ≡ map code signedClasses
   found-codes = sym (map-map code (signed p) foundClasses)
 
   pub found-fit : ResiduesFit (codesOf p foundClasses)

@@ -3,7 +3,8 @@ use mathlib.Core.Path.{_≡_, refl, sym, ap, ap₂, _∙_, fun-ext}
 use mathlib.Core.Logic.{_⊎_, inl, inr}
 use mathlib.Core.Bool.{Bool, true, false, _&&_}
 use Prim.Native.Nat.{ℕ, _+_, _-_, _*_, _/_, _%_, _^_, _≤_, _<_}
-use native.Mathlib.Nat.{mul-le-mul-left, div-add-mod, div-lt-iff-lt-mul, eq-of-mul-eq-mul-left, add-left-cancel, mod-mod-of-dvd}
+use native.Mathlib.Nat.{mul-le-mul-left, div-add-mod, div-lt-iff-lt-mul, eq-of-mul-eq-mul-left, add-left-cancel}
+use native.Mathlib.Nat.{mod-eq-of-lt, mod-mod-of-dvd}
 use native.Mathlib.Decide.{decLe}
 use native.Mathlib.Omega.{arith}
 use lib.Pow.{pow-add}
@@ -22,7 +23,7 @@ use Rattle.theory.proofs.Lists.Permutation.{perm-in, perm-no-repeat}
 use Rattle.theory.proofs.Numbers.Power.{pow-pos, pow-split, pow-dvd}
 use Rattle.theory.proofs.Classes.Equal.{class-equal}
 use Rattle.theory.proofs.Classes.Digit.{digit-mod, digits-above, next-digits}
-use Rattle.theory.proofs.Classes.Whole.{whole-elim, whole-intro}
+use Rattle.theory.proofs.Classes.Whole.{whole-down}
 use Rattle.theory.proofs.Classes.Cover.{shortest-disjoint, shortest-no-repeat}
 use Rattle.theory.proofs.Classes.Entries.{Entry, entry-listed, contained-at}
 use Rattle.theory.proofs.Classes.Tree.{entries, whole-top, tree-whole, tree-rival, tree-perm}
@@ -177,11 +178,9 @@ module _ (p n : ℕ) (two : 2 ≤ p) (c : Class) (k : IsClass p n c) where
     all-below : isWhole S p n c ≡ allBelow B (p ^ l)
     all-below = ap (isWhole S p n) (sym (under-top p c)) ∙ whole-under S p n c (class 0 0) ∙ whole-top B p l
 
-    -- a class that lies in a whole one is whole
-    whole-down : (s : ℕ) → s ≤ t → isWhole S p n (classAt p a s) ≡ true → isWhole S p n c ≡ true
-    whole-down s h w =
-        whole-intro S p n hp c k (λ r m.
-        whole-elim S p n hp (classAt p a s) (omega (arith, k .level-fits)) w r (contained-at p n c s h r m))
+    -- where c lies in a whole class, it is whole
+    whole-inside : (s : ℕ) → s ≤ t → isWhole S p n (classAt p a s) ≡ true → isWhole S p n c ≡ true
+    whole-inside s h w = rw (mod-eq-of-lt (k .residue-fits)) at (whole-down S p n hp a s t h (k .level-fits) w)
 
     -- where c is not whole, no class below lies in a larger whole one
     under-entry : isWhole S p n c ≡ false → (d : Class) → Entry B p l d → Entry S p n (under p c d)
@@ -201,7 +200,7 @@ module _ (p n : ℕ) (two : 2 ≤ p) (c : Class) (k : IsClass p n c) where
             ∙ m .in-no-larger (s - t) (omega arith))
         larger s h (no b) =
             ap (isWhole S p n) (at-lower (d .residue) s (omega arith))
-            ∙ not-holding (isWhole S p n (classAt p a s)) (λ w. contradiction (whole-down s (omega arith) w) none)
+            ∙ not-holding (isWhole S p n (classAt p a s)) (λ w. contradiction (whole-inside s (omega arith) w) none)
 
     -- each class is c or one of S's own list
     pub below-listed : (e : Class) → In e (treeBelow S p n c) → (e ≡ c) ⊎ In e (shortest S p n)

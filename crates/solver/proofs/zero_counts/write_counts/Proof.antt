@@ -3,13 +3,13 @@ use mathlib.Core.Path.{_≡_, refl, sym, ap, _∙_}
 use mathlib.Core.List.{List}
 use Prim.Native.Nat.{ℕ, suc, _+_, _-_, _/_, _^_, _≤_, _<_}
 use native.Mathlib.Numerals.{add-one}
-use native.Mathlib.Nat.{mul-div-cancel, pow-suc, sub-zero}
+use native.Mathlib.Nat.{sub-zero}
 use native.Mathlib.Omega.{arith}
 use borrow.Author.Needs.{needs}
 use lib.ListN.{length, getD, set, length-set}
 use Rattle.theory.specs.inner.Overwritten.{Overwritten}
 use Rattle.theory.proofs.Lists.Overwritten.{written-none, written-up, written-twice, written-again}
-use Rattle.theory.proofs.Numbers.Power.{pow-pos}
+use Rattle.theory.proofs.Numbers.Power.{pow-pos, pow-before}
 use Rattle.theory.proofs.Numbers.Prime.{prime-pos}
 use Rattle.solver.specs.inner.Counts.{scaled}
 use Rattle.solver.proofs.zero_counts.write_counts.Statement.{statement}
@@ -27,8 +27,8 @@ first p n zeros l h = written-up (written-none (scaled p n zeros) 0 l) 0 1 h ref
 
 next-power : (p n j rest : ℕ) → 0 < p → j < n → rest ≡ p ^ (n - j) → rest / p ≡ p ^ (n - (j + 1))
 next-power p n j rest hp h e =
-    let q : n - j ≡ suc (n - (j + 1)) = omega arith in
-    ap (λ (x : ℕ). x / p) (e ∙ ap (λ (k : ℕ). p ^ k) q ∙ pow-suc p (n - (j + 1))) ∙ mul-div-cancel (p ^ (n - (j + 1))) hp
+    let q : n - j - 1 ≡ n - (j + 1) = omega arith in
+    pow-before p (n - j) hp (omega arith) e ∙ ap (λ (k : ℕ). p ^ k) q
 
 scaled-next : (p n : ℕ) (zeros : List ℕ) (j : ℕ) {rest : ℕ} → rest ≡ p ^ (n - (j + 1)) → getD zeros j 0 / rest ≡ scaled p n zeros (j + 1)
 scaled-next p n zeros j e = rw (e, add-one j)
