@@ -6,8 +6,9 @@ use Prim.Native.Nat.{ℕ, _≤_}
 use native.Mathlib.Omega.{arith}
 use Rattle.refusal.specs.declared.Refusal.{Refusal}
 use Rattle.refusal.specs.declared.Refusal.the-variants.{Form, NoCoefficient, TooManyCoefficients}
-use Rattle.refusal.specs.declared.Refusal.the-variants.{PrimeOutOfRange, Composite, Precision, PrecisionsFall, Lengths, Entry, Point}
-use Rattle.refusal.specs.declared.Refusal.the-variants.{MapTooLarge, MapLength, TooFewSlots, BufferTooSmall, TooManyProblems}
+use Rattle.refusal.specs.declared.Refusal.the-variants.{PrimeOutOfRange, Composite, Precision, Tag, Full, PrecisionsFall, Lengths}
+use Rattle.refusal.specs.declared.Refusal.the-variants.{Entry, Point, MapTooLarge, MapLength, TooFewSlots, BufferTooSmall}
+use Rattle.refusal.specs.declared.Refusal.the-variants.{TooManyProblems}
 use Rattle.refusal.specs.Number.{numberOf, placeOf}
 use Rattle.refusal.specs.Rules.{Verdict, passes, refuses, rule, tried}
 
@@ -18,6 +19,8 @@ number-at-most TooManyCoefficients = omega arith
 number-at-most PrimeOutOfRange = omega arith
 number-at-most (Composite divisor) = omega arith
 number-at-most Precision = omega arith
+number-at-most Tag = omega arith
+number-at-most Full = omega arith
 number-at-most PrecisionsFall = omega arith
 number-at-most (Lengths place) = omega arith
 number-at-most (Entry place) = omega arith

@@ -10,9 +10,9 @@ use borrow.Author.Tests.{eq-eqb, ne-eqb, lt-ltb, le-ltb, le-leb, lt-leb, eqb-tru
 use lib.Dec.{eqb}
 use Rattle.refusal.specs.declared.Refusal.{Refusal}
 use Rattle.refusal.specs.declared.Refusal.the-variants.{NoCoefficient, TooManyCoefficients, Lengths, Point, MapTooLarge, MapLength}
-use Rattle.refusal.specs.declared.Refusal.the-variants.{TooFewSlots, BufferTooSmall, PrecisionsFall}
+use Rattle.refusal.specs.declared.Refusal.the-variants.{TooFewSlots, BufferTooSmall, Tag, Full, PrecisionsFall}
 use Rattle.refusal.specs.Rules.{Verdict, passes, refuses, tried, rule2, rule3, rule6, rule6Three, rule8, rule9, rule10, rule11}
-use Rattle.refusal.specs.Rules.{rule12, rule17, rule, filled}
+use Rattle.refusal.specs.Rules.{rule12, rule15, rule16, rule17, rule, filled}
 
 pub rule2-refuses : (count : ℕ) → count ≡ 0 → rule2 count ≡ refuses NoCoefficient
 rule2-refuses count e = rw (eq-eqb count 0 e)
@@ -25,6 +25,18 @@ rule3-refuses count h = rw (lt-ltb 65 count h)
 
 pub rule3-passes : (count : ℕ) → count ≤ 65 → rule3 count ≡ passes
 rule3-passes count h = rw (le-ltb 65 count h)
+
+pub rule15-refuses : (b : Bool) → b ≡ true → rule15 b ≡ refuses Tag
+rule15-refuses b e = rw e
+
+pub rule15-passes : (b : Bool) → b ≡ false → rule15 b ≡ passes
+rule15-passes b e = rw e
+
+pub rule16-refuses : (held : ℕ) → 16 ≤ held → rule16 held ≡ refuses Full
+rule16-refuses held h = rw (le-leb 16 held h)
+
+pub rule16-passes : (held : ℕ) → held < 16 → rule16 held ≡ passes
+rule16-passes held h = rw (lt-leb 16 held h)
 
 pub rule17-falls : (n m residues levels : ℕ) → m < n → rule17 n m residues levels ≡ refuses PrecisionsFall
 rule17-falls n m residues levels h = rw (lt-ltb m n h)

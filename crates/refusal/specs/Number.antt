@@ -2,8 +2,9 @@
 use Prim.Native.Nat.{ℕ}
 use Rattle.refusal.specs.declared.Refusal.{Refusal}
 use Rattle.refusal.specs.declared.Refusal.the-variants.{Form, NoCoefficient, TooManyCoefficients}
-use Rattle.refusal.specs.declared.Refusal.the-variants.{PrimeOutOfRange, Composite, Precision, PrecisionsFall, Lengths, Entry, Point}
-use Rattle.refusal.specs.declared.Refusal.the-variants.{MapTooLarge, MapLength, TooFewSlots, BufferTooSmall, TooManyProblems}
+use Rattle.refusal.specs.declared.Refusal.the-variants.{PrimeOutOfRange, Composite, Precision, Tag, Full, PrecisionsFall, Lengths}
+use Rattle.refusal.specs.declared.Refusal.the-variants.{Entry, Point, MapTooLarge, MapLength, TooFewSlots, BufferTooSmall}
+use Rattle.refusal.specs.declared.Refusal.the-variants.{TooManyProblems}
 
 abbrev pub numberOf : Refusal → ℕ
 numberOf (Form place) = 1
@@ -12,6 +13,8 @@ numberOf TooManyCoefficients = 3
 numberOf PrimeOutOfRange = 4
 numberOf (Composite divisor) = 14
 numberOf Precision = 5
+numberOf Tag = 15
+numberOf Full = 16
 numberOf PrecisionsFall = 17
 numberOf (Lengths place) = 6
 numberOf (Entry place) = 7
@@ -29,6 +32,8 @@ placeOf TooManyCoefficients = 0
 placeOf PrimeOutOfRange = 0
 placeOf (Composite divisor) = divisor
 placeOf Precision = 0
+placeOf Tag = 0
+placeOf Full = 0
 placeOf PrecisionsFall = 0
 placeOf (Lengths place) = place
 placeOf (Entry place) = place

@@ -6,7 +6,7 @@ use lib.Dec.{eqb, ltb, leb}
 use lib.ListN.{length, drop}
 use Rattle.refusal.specs.declared.Refusal.{Refusal}
 use Rattle.refusal.specs.declared.Refusal.the-variants.{NoCoefficient, TooManyCoefficients, Lengths, Point, MapTooLarge, MapLength}
-use Rattle.refusal.specs.declared.Refusal.the-variants.{TooFewSlots, BufferTooSmall, PrecisionsFall}
+use Rattle.refusal.specs.declared.Refusal.the-variants.{TooFewSlots, BufferTooSmall, Tag, Full, PrecisionsFall}
 
 -- what a rule says of a call
 pub data Verdict : Type 0 where
@@ -18,8 +18,8 @@ abbrev pub rule : Bool → Refusal → Verdict
 rule true r = refuses r
 rule false r = passes
 
--- "The rules are tried by rising number, and the first that applies is the refusal"; 02 puts 14 "directly after 4" and 17 "directly after
--- rule 5"
+-- "The rules are tried by rising number, and the first that applies is the refusal"; 02 puts 14 "directly after 4", 15 and 16
+-- "after rule 5" and 17 "directly after rule 5"
 abbrev pub tried : List Verdict → Verdict
 tried [] = passes
 tried (passes ∷ rules) = tried rules
@@ -37,6 +37,14 @@ rule2 count = rule (eqb count 0) NoCoefficient
 -- "3. There are more than 65 coefficients."
 abbrev pub rule3 : ℕ → Verdict
 rule3 count = rule (ltb 65 count) TooManyCoefficients
+
+-- "15, a tag already held when adding or not held when withdrawing" (02, 2.6)
+abbrev pub rule15 : (applies : Bool) → Verdict
+rule15 applies = rule applies Tag
+
+-- "16, sixteen are held when adding" (02, 2.6)
+abbrev pub rule16 : (held : ℕ) → Verdict
+rule16 held = rule (leb 16 held) Full
 
 -- "17, m below n or a given list of more than 64 entries" (02, 2.9): residues and levels are given, each a list
 abbrev pub rule17 : (n m residues levels : ℕ) → Verdict

@@ -15,6 +15,10 @@ pub enum Refusal {
     Composite(usize),
     // 5: n is 0, or pⁿ exceeds 4,294,967,295
     Precision,
+    // 15: the tag is held already when adding, or is not held when withdrawing
+    Tag,
+    // 16: sixteen polynomials are held when adding
+    Full,
     // 17: the precision to raise to is below the given one, or a given list has more than 64 entries
     PrecisionsFall,
     // 6: the lists differ in length; the shortest length
@@ -47,6 +51,8 @@ impl Refusal {
             Refusal::PrimeOutOfRange => 4,
             Refusal::Composite(_) => 14,
             Refusal::Precision => 5,
+            Refusal::Tag => 15,
+            Refusal::Full => 16,
             Refusal::PrecisionsFall => 17,
             Refusal::Lengths(_) => 6,
             Refusal::Entry(_) => 7,
@@ -70,6 +76,8 @@ impl Refusal {
             Refusal::PrimeOutOfRange => 0,
             Refusal::Composite(place) => place,
             Refusal::Precision => 0,
+            Refusal::Tag => 0,
+            Refusal::Full => 0,
             Refusal::PrecisionsFall => 0,
             Refusal::Lengths(place) => place,
             Refusal::Entry(place) => place,

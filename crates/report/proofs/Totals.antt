@@ -4,10 +4,8 @@ use Prim.Native.Nat.{ℕ, _+_, _≤_, _<_}
 use native.Mathlib.Omega.{arith}
 use lib.Dec.{eqb}
 use Rattle.refusal.specs.declared.Refusal.{Refusal}
-use Rattle.refusal.specs.declared.Refusal.the-variants.{Form, NoCoefficient, TooManyCoefficients}
-use Rattle.refusal.specs.declared.Refusal.the-variants.{PrimeOutOfRange, Composite, Precision, PrecisionsFall, Lengths, Entry, Point}
-use Rattle.refusal.specs.declared.Refusal.the-variants.{MapTooLarge, MapLength, TooFewSlots, BufferTooSmall, TooManyProblems}
-use Rattle.refusal.specs.Number.{placeOf}
+use Rattle.refusal.specs.declared.Refusal.the-variants.{Form}
+use Rattle.refusal.specs.Number.{numberOf, placeOf}
 use Rattle.report.specs.declared.step.Totals.{Totals}
 use Rattle.report.specs.Report.{start, rootlessBy, after, fromStart}
 use Rattle.report.specs.inner.Outcomes.{Small}
@@ -34,18 +32,8 @@ after-small s bytes roots small room short few =
     }
 
 pub from-start-place : (at : ℕ) (r : Refusal) → placeOf (fromStart at r) ≤ at + placeOf r
-from-start-place at (Form place) = omega arith
-from-start-place at NoCoefficient = omega arith
-from-start-place at TooManyCoefficients = omega arith
-from-start-place at PrimeOutOfRange = omega arith
-from-start-place at (Composite divisor) = omega arith
-from-start-place at Precision = omega arith
-from-start-place at PrecisionsFall = omega arith
-from-start-place at (Lengths place) = omega arith
-from-start-place at (Entry place) = omega arith
-from-start-place at Point = omega arith
-from-start-place at MapTooLarge = omega arith
-from-start-place at MapLength = omega arith
-from-start-place at (TooFewSlots place) = omega arith
-from-start-place at (BufferTooSmall place) = omega arith
-from-start-place at (TooManyProblems place) = omega arith
+from-start-place at r = go (eqb (numberOf r) 1)
+  where
+    go : (b : Bool) → placeOf (cond b (Form (at + placeOf r)) r) ≤ at + placeOf r
+    go true = omega arith
+    go false = omega arith

@@ -7,9 +7,8 @@ use lib.IntN.{ℤ}
 use lib.ListN.{take, drop}
 use Rattle.theory.specs.Counts.{solutions, countsBelow, countRow}
 use Rattle.refusal.specs.declared.Refusal.{Refusal}
-use Rattle.refusal.specs.declared.Refusal.the-variants.{Form, NoCoefficient, TooManyCoefficients}
-use Rattle.refusal.specs.declared.Refusal.the-variants.{PrimeOutOfRange, Composite, Precision, PrecisionsFall, Lengths, Entry, Point}
-use Rattle.refusal.specs.declared.Refusal.the-variants.{MapTooLarge, MapLength, TooFewSlots, BufferTooSmall, TooManyProblems}
+use Rattle.refusal.specs.declared.Refusal.the-variants.{Form, TooManyProblems}
+use Rattle.refusal.specs.Number.{numberOf, placeOf}
 use Rattle.refusal.specs.Rules.{tried}
 use Rattle.numbers.specs.Modulus.{modulusRules}
 use Rattle.text.specs.declared.Read.{Read}
@@ -38,21 +37,7 @@ after s bytes roots =
 
 -- "Offsets count from the start of the text": the places of rule 1 are offsets, in a problem that starts at `at`
 abbrev pub fromStart : ℕ → Refusal → Refusal
-fromStart at (Form place) = Form (at + place)
-fromStart at NoCoefficient = NoCoefficient
-fromStart at TooManyCoefficients = TooManyCoefficients
-fromStart at PrimeOutOfRange = PrimeOutOfRange
-fromStart at (Composite divisor) = Composite divisor
-fromStart at Precision = Precision
-fromStart at PrecisionsFall = PrecisionsFall
-fromStart at (Lengths place) = Lengths place
-fromStart at (Entry place) = Entry place
-fromStart at Point = Point
-fromStart at MapTooLarge = MapTooLarge
-fromStart at MapLength = MapLength
-fromStart at (TooFewSlots place) = TooFewSlots place
-fromStart at (BufferTooSmall place) = BufferTooSmall place
-fromStart at (TooManyProblems place) = TooManyProblems place
+fromStart at r = cond (eqb (numberOf r) 1) (Form (at + placeOf r)) r
 
 -- "Each problem gives a line of its n + 1 counts", and "Bytes after a problem begin the next one"; "The first refused problem ends the
 -- report with its refusal line": by what the reader gives of the problem at the front of the text that is left

@@ -67,10 +67,10 @@ fn from_start(at: usize, refusal: Refusal) -> Refusal
     requires { ⌜ (at ≤ 1399000) × (placeOf refusal ≤ 1399) ⌝ }
     ensures { λ r. ⌜ r ≡ fromStart at refusal ⌝ }
 {
-    match refusal {
-        Refusal::Form(place) => Refusal::Form(at + place),
-        _ => refusal,
+    if refusal.number() == 1 {
+        return Refusal::Form(at + refusal.place());
     }
+    refusal
 }
 
 // A refusal's line. It returns how many bytes it has.
