@@ -6,6 +6,7 @@ pub mod Permutation
 pub mod Pigeonhole
 pub mod Index
 pub mod Rising
+pub mod Merge
 pub mod Minimum
 pub mod Fill
 pub mod Overwritten

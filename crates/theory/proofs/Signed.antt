@@ -6,5 +6,7 @@ pub mod Entries
 pub mod Demand
 pub mod AddsUp
 pub mod Join
+pub mod Covered
+pub mod Cut
 pub mod Few
 pub mod Raised

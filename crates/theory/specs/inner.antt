@@ -5,3 +5,4 @@ pub mod Overwritten
 pub mod Keep
 pub mod Started
 pub mod Join
+pub mod Cut

@@ -60,6 +60,21 @@ written-length f xs l₀ i hx hl =
     length-append (map f (take i xs)) (drop i l₀)
     ∙ rw (length-map (take i xs) f, length-take-le i xs hx, length-drop i l₀) (omega arith)
 
+-- the same of entries that are copied
+module _ {A : Type 0} (xs l₀ : List A) (i : ℕ) where
+  pub copied-next : (d : A) → i < length xs → i < length l₀
+      → set (take i xs ++ drop i l₀) i (getD xs i d) ≡ take (i + 1) xs ++ drop (i + 1) l₀
+  copied-next d hx hl =
+      let v = getD xs i d in
+      ap (λ ys. set (take i xs ++ ys) i v) (drop-next l₀ i d hl)
+      ∙ set-at (take i xs) (getD l₀ i d) (drop (i + 1) l₀) v i (length-take-le i xs (omega arith))
+      ∙ sym (append-snoc (take i xs) v (drop (i + 1) l₀))
+      ∙ ap (λ ys. ys ++ drop (i + 1) l₀) (sym (take-next xs i d hx))
+
+  pub copied-length : i ≤ length xs → i ≤ length l₀ → length (take i xs ++ drop i l₀) ≡ length l₀
+  copied-length hx hl =
+      length-append (take i xs) (drop i l₀) ∙ rw (length-take-le i xs hx, length-drop i l₀) (omega arith)
+
 -- an entry after one store
 pub stored : {A : Type 0} (l : List A) (j k : ℕ) (v d x : A) → j < length l → (k ≡ j → v ≡ x) → ((k ≡ j → ⊥) → getD l k d ≡ x)
     → getD (set l j v) k d ≡ x
