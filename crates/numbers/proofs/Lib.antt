@@ -4,3 +4,4 @@ pub mod Words
 pub mod Rules
 pub mod Composite
 pub mod Places
+pub mod Totals

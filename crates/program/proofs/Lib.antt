@@ -1,5 +1,4 @@
 -- What the program prints, proved of the reader's, the solver's and the writer's contracts.
-pub mod Few
 pub mod Lengths
 pub mod Accepted
 pub mod Solved

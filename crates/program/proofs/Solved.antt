@@ -11,8 +11,9 @@ use Rattle.refusal.specs.Rules.{Verdict, passes, filled}
 use Rattle.numbers.specs.inner.Usable.{Usable}
 use Rattle.numbers.proofs.Rules.{passes-usable}
 use Rattle.solver.specs.declared.Solved.the-variants.{Found, Refused}
-use Rattle.solver.specs.Solve.{Lists, solution, solvedOf, marksOf}
+use Rattle.solver.specs.Solve.{Lists, solution, solverVerdict, solvedOf, marksOf}
 use Rattle.solver.proofs.Answered.{refused-verdict, found-passes}
+use Rattle.solver.proofs.Few.{Slots64, verdict-of-modulus, solution-few}
 use Rattle.classes.specs.Rule7.{classesOf}
 use Rattle.classes.proofs.Entries.{classes-of-parts}
 use Rattle.writer.specs.declared.Written.{Written}
@@ -20,7 +21,6 @@ use Rattle.writer.specs.Output.{outputText, refusalLine, textOr}
 use Rattle.writer.specs.Written.{bytesOr, writerVerdict, writtenOf, refusalVerdict, refusalWrittenOf}
 use Rattle.writer.proofs.Line.{refusal-length}
 use Rattle.program.specs.Printed.{judged, solvedText, bufferVerdict, writtenIn}
-use Rattle.program.proofs.Few.{Slots64, verdict-judged, solution-few}
 use Rattle.program.proofs.Lengths.{output-length}
 use Rattle.program.proofs.Accepted.{writer-12, residues-length, marks-length}
 
@@ -46,16 +46,20 @@ module _ (r : Refusal) (bytes : ℕ) where
 
 module _ (f : List ℤ) (p n : ℕ) (some : 0 < length f) (few : length f ≤ 65) where
   module _ (given : Lists) (slots : Slots64 given) where
+    verdict-judged : solverVerdict f p n given ≡ judged p n
+    unfolding judged
+    verdict-judged = verdict-of-modulus f p n some few given slots
+
     -- where the solver found the list, p and n are accepted
     pub found : {k c l : ℕ} → solvedOf f p n given ≡ Found k c l → judged p n ≡ passes
-    found e = sym (verdict-judged f p n some few given slots) ∙ found-passes f p n given e
+    found e = sym verdict-judged ∙ found-passes f p n given e
 
     -- and where it refused
     pub refused : (r : Refusal) → solvedOf f p n given ≡ Refused r → solvedText f p n ≡ refusalLine r
     unfolding solvedText
     refused r e =
         ap (λ (v : Verdict). textOr v (outputText p n (solution f p n) (marksOf f p n)))
-        (sym (verdict-judged f p n some few given slots) ∙ refused-verdict f p n given r e)
+        (sym verdict-judged ∙ refused-verdict f p n given r e)
 
   -- where p and n are accepted
   module _ (passed : judged p n ≡ passes) where

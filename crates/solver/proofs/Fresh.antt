@@ -6,12 +6,11 @@ use Prim.Native.Nat.{ℕ, _^_, _≤_}
 use native.Mathlib.Omega.{arith}
 use lib.IntN.{ℤ}
 use lib.ListN.{length, length-map, take}
-use Rattle.theory.specs.Polynomial.{reduce, reduced, roots}
+use Rattle.theory.specs.Polynomial.{roots}
 use Rattle.theory.specs.Shortest.{count}
 use Rattle.theory.specs.Live.{live}
 use Rattle.theory.specs.SignedClass.{SignedClass, residuesOf, levelsOf}
 use Rattle.theory.proofs.Numbers.Prime.{prime-pos}
-use Rattle.theory.proofs.Signed.Entries.{signed-length}
 use Rattle.theory.proofs.Signed.Raised.{raised-list-fresh, raised-count-fresh}
 use Rattle.refusal.specs.Rules.{Verdict, passes, refuses, tried, rule6, rule6Three, rule11, rule17}
 use Rattle.refusal.proofs.Rules.{tried-leads, tried-both, tried-first, rule6-passes, rule17-passes, coefficients-lead}
@@ -26,10 +25,9 @@ use Rattle.solver.specs.Solve.{Lists, polynomialRules, listRules, soluti
 use Rattle.solver.specs.Solve.{listsAfter}
 use Rattle.solver.specs.Raise.{rootsAmong, raised, raiseVerdict, raisedOr, withoutLive, raisedOf, raisedLists}
 use Rattle.solver.specs.inner.UsablePolynomial.{polynomialModulus, UsablePolynomial}
-use Rattle.solver.proofs.Coefficients.{row-below}
-use Rattle.solver.proofs.Top.{zeros-few}
 use Rattle.solver.proofs.Verdicts.{usable-polynomial}
 use Rattle.solver.proofs.RaiseRules.{checked-7}
+use Rattle.solver.proofs.Few.{solution-few}
 use Rattle.solver.proofs.Answered.{found-residues, found-levels, found-passes}
 
 -- rules that pass may be left out
@@ -62,13 +60,7 @@ module _ (f : List ℤ) (p n m : ℕ) (accepted : tried (polynomialRules f p n) 
   levels-long = length-map L (λ (c : SignedClass). c .level)
 
   few : length L ≤ 64
-  unfolding solution roots reduced
-  few =
-      omega (
-        arith,
-        signed-length (roots f p n) p n (prime-pos (U .prime)),
-        zeros-few U (omega (arith, length-map f (reduce (p ^ n)), polynomial .few)) (row-below f U refl),
-      )
+  few = solution-few f U (polynomial .few)
 
   same-length : length (residuesOf L) ≡ length (levelsOf L)
   same-length = residues-long ∙ sym levels-long

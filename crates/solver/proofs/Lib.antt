@@ -35,4 +35,5 @@ pub mod Passed
 pub mod Callers
 pub mod ManyPoints
 pub mod Answered
+pub mod Few
 pub mod Fresh

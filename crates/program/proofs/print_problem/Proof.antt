@@ -12,8 +12,8 @@ use Rattle.refusal.specs.Rules.{passes}
 use Rattle.solver.specs.declared.Solved.the-variants.{Found}
 use Rattle.solver.specs.Solve.{Lists, lists, solution, solvedOf, marksOf}
 use Rattle.solver.proofs.Answered.{found-number, found-residues, found-levels, found-marks}
+use Rattle.solver.proofs.Few.{Slots64}
 use Rattle.program.specs.Printed.{judged}
-use Rattle.program.proofs.Few.{Slots64}
 use Rattle.program.proofs.Solved.{found, refused, number-few, block-answer, block-text}
 use Rattle.program.proofs.Solved.{refusal-answer, refusal-text}
 use Rattle.program.proofs.print_problem.Statement.{statement}

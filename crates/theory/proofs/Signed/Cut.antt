@@ -41,8 +41,7 @@ module _ (S T : ℕ → Bool) (p n : ℕ) (hp : 0 < p) where
 
   whole-each : (c : Class) → IsClass p n c → isWhole (both S T) p n c ≡ true → (isWhole S p n c ≡ true) × (isWhole T p n c ≡ true)
   whole-each c k w =
-      let all = whole-elim (both S T) p n hp c (k .level-fits) w in
-      (
+      let all = whole-elim (both S T) p n hp c (k .level-fits) w in (
         whole-intro S p n hp c k (λ r m. and-left (S r) (T r) (all r m)),
         whole-intro T p n hp c k (λ r m. and-right (S r) (T r) (all r m)),
       )
@@ -170,7 +169,8 @@ module _ (S T : ℕ → Bool) (p n : ℕ) (hp : 0 < p) where
   -- so it has at most as many classes as both lists together
   pub both-length : length C ≤ length A + length B
   both-length =
-      let m = pigeonhole (λ (c : SignedClass). c) C (A ++ B) (signed-no-repeat (both S T) p n) (λ c u. (c, from c (listed-from c u), refl)) in
+      let m = pigeonhole (λ (c : SignedClass). c) C (A ++ B) (signed-no-repeat (both S T) p n)
+      (λ c u. (c, from c (listed-from c u), refl)) in
       omega (arith, length-append A B)
     where
       from : (c : SignedClass)

@@ -16,11 +16,12 @@ use Rattle.theory.specs.SignedList.{signedList}
 use Rattle.theory.proofs.Numbers.Prime.{prime-pos}
 use Rattle.numbers.specs.inner.Usable.{Usable}
 use Rattle.numbers.specs.Saturated.{saturated}
+use Rattle.numbers.proofs.Totals.{total-is}
 use Rattle.refusal.specs.Rules.{passes, filled}
 use Rattle.solver.specs.Solve.{lists}
 use Rattle.solver.specs.inner.Code.{code, classOf}
 use Rattle.solver.specs.inner.Marks.{markFrom}
-use Rattle.solver.proofs.Codes.{written, total-is}
+use Rattle.solver.proofs.Codes.{written}
 use Rattle.solver.proofs.Marks.{mark-is}
 use Rattle.solver.proofs.lists.fill.Statement.{statement}
 use Rattle.solver.proofs.lists.fill.Tie as tie

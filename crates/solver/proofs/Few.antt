@@ -1,5 +1,5 @@
--- 64 slots are enough: a polynomial with at most 65 coefficients has at most 64 classes, so of the solver's rules only those on p and n
--- are left to a problem that is read.
+-- 64 slots are enough: a polynomial with at most 65 coefficients has at most 64 classes, so that of the solver's rules only those on p and
+-- n are left.
 use mathlib.Core.Path.{_≡_, refl, sym, ap, _∙_}
 use mathlib.Core.Bool.{Bool, true, false}
 use mathlib.Core.List.{List, _++_}
@@ -21,8 +21,7 @@ use Rattle.numbers.specs.declared.Modulus.the-variants.{Accepted, Refused}
 use Rattle.numbers.specs.Modulus.{modulusRules, modulusOf}
 use Rattle.numbers.specs.inner.Usable.{Usable}
 use Rattle.numbers.proofs.Rules.{usable, usable-leads, modulus-refuses, refused-leads}
 use Rattle.solver.specs.Solve.{Lists, listRules, solution, solverVerdict}
-use Rattle.program.specs.Printed.{judged}
 
 -- three lists of 64 slots
 pub record Slots64 (given : Lists) : Type 0 where
@@ -52,10 +51,10 @@ slots-pass given S k h =
     )
 
 -- with 64 slots the solver's rules are those on p and n
-pub verdict-judged : (f : List ℤ) (p n : ℕ) → 0 < length f → length f ≤ 65 → (given : Lists) → Slots64 given
-    → solverVerdict f p n given ≡ judged p n
-unfolding solverVerdict judged
-verdict-judged f p n some few given S =
+pub verdict-of-modulus : (f : List ℤ) (p n : ℕ) → 0 < length f → length f ≤ 65 → (given : Lists) → Slots64 given
+    → solverVerdict f p n given ≡ tried (modulusRules p n)
+unfolding solverVerdict
+verdict-of-modulus f p n some few given S =
     coefficients-lead (length f) (λ e. omega arith) few (modulusRules p n ++ listRules given (length (solution f p n)))
     ∙ go (modulusOf p n) refl
   where

@@ -1,0 +1,11 @@
+-- What the proofs of several functions use, and the theorems on systems.
+mod Cutting
+mod HeldSlots
+mod Solving
+pub mod Commons
+mod Opening
+mod Cuts
+pub mod Holding
+mod Fetching
+mod Tags
+mod Changing
