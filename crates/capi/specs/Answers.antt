@@ -11,6 +11,10 @@ use Rattle.solver.specs.declared.Tabulated.{Tabulated}
 use Rattle.solver.specs.declared.Tabulated.the-variants as tabulated
 use Rattle.solver.specs.declared.raise.Raised.{Raised}
 use Rattle.solver.specs.declared.raise.Raised.the-variants as raised
+use Rattle.systems.specs.declared.Outcome.{Outcome}
+use Rattle.systems.specs.declared.Outcome.the-variants as outcome
+use Rattle.systems.specs.declared.Fetched.{Fetched}
+use Rattle.systems.specs.declared.Fetched.the-variants as fetched
 use Rattle.classes.specs.declared.next.Next.{Next}
 use Rattle.classes.specs.declared.next.Next.the-variants as next
 use Rattle.rootmap.specs.declared.Mapped.{Mapped}
@@ -26,6 +30,8 @@ use Rattle.capi.specs.declared.is_root.TestAnswer.{TestAnswer}
 use Rattle.capi.specs.declared.test_points.PointsAnswer.{PointsAnswer}
 use Rattle.capi.specs.declared.counts.CountsAnswer.{CountsAnswer}
 use Rattle.capi.specs.declared.raise.RaiseAnswer.{RaiseAnswer}
+use Rattle.capi.specs.declared.system.SystemAnswer.{SystemAnswer}
+use Rattle.capi.specs.declared.system.FetchAnswer.{FetchAnswer}
 use Rattle.capi.specs.declared.next_root.NextAnswer.{NextAnswer}
 use Rattle.capi.specs.declared.fill_map.MapAnswer.{MapAnswer}
 use Rattle.capi.specs.declared.count_map.CountAnswer.{CountAnswer}
@@ -57,6 +63,16 @@ countsAnswer (tabulated.Refused r) = record { number = numberOf r; place = place
 abbrev pub raiseAnswer : Raised → RaiseAnswer
 raiseAnswer (raised.Found k roots) = record { number = 0; place = 0; classes = k; roots = roots }
 raiseAnswer (raised.Refused r) = record { number = numberOf r; place = placeOf r; classes = 0; roots = 0 }
+
+-- a system is opened, or a polynomial added or withdrawn, or the call is refused (02, 2.6)
+abbrev pub systemAnswer : Outcome → SystemAnswer
+systemAnswer outcome.Done = record { number = 0; place = 0 }
+systemAnswer (outcome.Refused r) = record { number = numberOf r; place = placeOf r }
+
+-- "whatever fills lists … returns k and the root count" (02, 2.6)
+abbrev pub fetchAnswer : Fetched → FetchAnswer
+fetchAnswer (fetched.Found k roots) = record { number = 0; place = 0; classes = k; roots = roots }
+fetchAnswer (fetched.Refused r) = record { number = numberOf r; place = placeOf r; classes = 0; roots = 0 }
 
 -- "Next returns the least member at or after the point, or none": found is 1, or 0 for none
 abbrev pub nextAnswer : Next → NextAnswer

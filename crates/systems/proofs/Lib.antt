@@ -3,7 +3,7 @@ mod Cutting
 mod HeldSlots
 mod Solving
 pub mod Commons
-mod Opening
+pub mod Opening
 mod Cuts
 pub mod Holding
 mod Fetching

@@ -84,15 +84,19 @@ closed =
       common = record { classes = 0; roots = 0; residues = replicate 1024 (pos 0); levels = replicate 1024 0 };
     }
 
-abbrev pub openedOr : Verdict → System → System
-openedOr passes s = s
-openedOr (refuses r) s = closed
+abbrev pub openedOr : Verdict → System → System → System
+openedOr passes new old = new
+openedOr (refuses r) new old = old
 
--- opening: a system that holds nothing, or the refusal
-unfoldable pub openedOf : ℕ → ℕ → Changed
+-- a system after opening: it holds nothing, and where p or n is refused it stays as it was
+unfoldable pub openedInto : ℕ → ℕ → System → System
 unfolding systemOf
-openedOf p n =
-    record { system = openedOr (openVerdict p n) (systemOf (model p n [])); outcome = doneOr (openVerdict p n) }
+openedInto p n s = openedOr (openVerdict p n) (systemOf (model p n [])) s
+
+-- opening by value
+unfoldable pub openedOf : ℕ → ℕ → Changed
+unfolding openedInto
+openedOf p n = record { system = openedInto p n closed; outcome = doneOr (openVerdict p n) }
 
 -- adding and withdrawing, on a system that holds a model
 unfoldable pub addedOf : Model → ℕ → List ℤ → Changed
