@@ -7,9 +7,9 @@
    gives the shortest list of classes whose members are exactly the roots. Example: x^2 - 1 modulo 2^4 has the classes
    -1/3 and 1/3 and the four roots 1, 7, 9 and 15.
 
-   What is lent. A list, a map or a text is lent as a pointer and the number of its elements. The library allocates
-   nothing, keeps no pointer after a call and has no state: calls from several threads at once are fine as long as
-   they do not share memory that one of them writes.
+   What is lent. A list, a map or a text is lent as a pointer and the number of its elements, and a system as a pointer
+   to its struct. The library allocates nothing, keeps no pointer after a call and has no state but what is lent: calls
+   from several threads at once are fine as long as they do not share memory that one of them writes.
 
    What comes back. Each function returns a struct. `number` is 0 if the call was accepted and otherwise the number of
    the rule that refused it (below), and `place` says where; the other fields are 0 in a refusal. A refused call
@@ -21,7 +21,8 @@
    - pass a length that is larger than the memory lent, or a pointer that is not aligned for its type;
    - let memory that a call writes (parameters without const) overlap any other memory lent to the same call;
    - write to lent memory from another thread during the call.
-   All else is checked: no value in the lists, maps and texts and no number can lead to more than a refusal. */
+   All else is checked: no value in the lists, maps and texts and no number can lead to more than a refusal. What a
+   system holds is the library's own: see at its struct. */
 
 #ifndef WIMPLECLAY_H
 #define WIMPLECLAY_H
@@ -50,6 +51,8 @@ enum wimpleclay_number {
     WIMPLECLAY_PRIME_OUT_OF_RANGE = 4,    /* p is below 2 or above 65535 */
     WIMPLECLAY_COMPOSITE = 14,            /* p is composite; place: its least divisor above 1, which is a prime */
     WIMPLECLAY_PRECISION = 5,             /* n is 0, or p^n exceeds 4294967295; then the same for m */
+    WIMPLECLAY_TAG = 15,                  /* the tag is held already (add), or is not held (withdraw) */
+    WIMPLECLAY_FULL = 16,                 /* WIMPLECLAY_MAX_HELD polynomials are held (add) */
     WIMPLECLAY_PRECISIONS_FALL = 17,      /* m is below n, or a given list has more than 64 entries */
     /* The lists differ in length; place: the shortest length. Where lists are given and others are to be filled, those
        given are looked at first, by themselves. */
@@ -77,6 +80,12 @@ enum wimpleclay_number {
 /* No more classes come of raising the precision of a list: wimpleclay_raise never refuses lists of this many slots by
    rule 11. */
 #define WIMPLECLAY_MAX_RAISED 128
+
+/* The most polynomials that a system holds. */
+#define WIMPLECLAY_MAX_HELD 16
+
+/* No common root list has more classes: wimpleclay_system_fetch never refuses lists of this many slots by rule 11. */
+#define WIMPLECLAY_MAX_COMMON 1024
 
 /* No n is above 31: a row of counts with this many slots is never refused 11. */
 #define WIMPLECLAY_MAX_COUNTS 32
@@ -186,6 +195,50 @@ wimpleclay_raise_answer wimpleclay_raise(const int64_t *coefficients, size_t coe
                                          size_t given_residues_length, const uint8_t *given_levels,
                                          size_t given_levels_length, int32_t *residues, size_t residues_length,
                                          uint8_t *levels, size_t levels_length, uint8_t *marks, size_t marks_length);
+
+/* Systems of congruences *******************************************************************************************/
+
+/* A system: up to 16 polynomials under one p and n, each with a tag of the caller's choice, and their common root list.
+   It has no pointers and needs no closing: it can be kept anywhere, copied with = or memcpy, and forgotten. Systems that
+   hold the same polynomials under the same tags in the same order of coming are equal bytes. What is inside is not to
+   be read or written. It is made by wimpleclay_system_open; with bytes made otherwise every function below still ends
+   and writes to no memory but what it is lent, but what it answers and writes there is not defined. */
+typedef struct {
+    uint64_t bytes[1300];
+} wimpleclay_system;
+
+typedef struct {
+    uint32_t number;
+    size_t place;
+} wimpleclay_system_answer;
+
+/* Makes *system, whatever it held, a system for p and n that holds no polynomial. Rules 4, 14 and 5; a refused call
+   leaves *system as it was. */
+wimpleclay_system_answer wimpleclay_system_open(uint32_t p, uint32_t n, wimpleclay_system *system);
+
+/* Adds the polynomial under the tag. The same polynomial may be held under several tags and counts as several. Rules 2,
+   3, 15 (the tag is held) and 16 (16 polynomials are held); a refused call leaves *system as it was. */
+wimpleclay_system_answer wimpleclay_system_add(wimpleclay_system *system, uint32_t tag, const int64_t *coefficients,
+                                               size_t coefficients_length);
+
+/* Withdraws the polynomial of the tag: the system is then as if it had never come. The tag may be used again. Rule 15
+   (the tag is not held); a refused call leaves *system as it was. */
+wimpleclay_system_answer wimpleclay_system_withdraw(wimpleclay_system *system, uint32_t tag);
+
+typedef struct {
+    uint32_t number;
+    size_t place;
+    size_t classes; /* k, the number of classes */
+    uint64_t roots; /* the number of common roots: the sum of the classes' members */
+} wimpleclay_fetch_answer;
+
+/* The common root list: the shortest list of classes whose members are exactly the residues from 0 to p^n - 1 that are
+   roots of all the polynomials held; with none held it is 0/0, everything. The lent lists must have the same length.
+   The k classes go into the first k slots, rising by the signed residue, without marks; later slots keep their content.
+   Adding and withdrawing keep the list up to date, and a fetch only copies it. It depends on the set of polynomials
+   held and not on the order of their coming. Rules 6 and 11 (place: k, so a call with lists of length 0 asks for k). */
+wimpleclay_fetch_answer wimpleclay_system_fetch(const wimpleclay_system *system, int32_t *residues,
+                                                size_t residues_length, uint8_t *levels, size_t levels_length);
 
 /* Stepping through the roots ***************************************************************************************/
 
