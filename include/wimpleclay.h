@@ -199,10 +199,10 @@ wimpleclay_raise_answer wimpleclay_raise(const int64_t *coefficients, size_t coe
 /* Systems of congruences *******************************************************************************************/
 
 /* A system: up to 16 polynomials under one p and n, each with a tag of the caller's choice, and their common root list.
-   It has no pointers and needs no closing: it can be kept anywhere, copied with = or memcpy, and forgotten. Systems that
-   hold the same polynomials under the same tags in the same order of coming are equal bytes. What is inside is not to
-   be read or written. It is made by wimpleclay_system_open; with bytes made otherwise every function below still ends
-   and writes to no memory but what it is lent, but what it answers and writes there is not defined. */
+   It has no pointers and needs no closing: it can be kept anywhere, copied with = or memcpy, and forgotten. Systems
+   that hold the same polynomials under the same tags in the same order of coming are equal bytes. What is inside is not
+   to be read or written. It is made by wimpleclay_system_open; with bytes made otherwise every function below still
+   ends and writes to no memory but what it is lent, but what it answers and writes there is not defined. */
 typedef struct {
     uint64_t bytes[1300];
 } wimpleclay_system;
