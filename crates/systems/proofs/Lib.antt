@@ -9,3 +9,5 @@ pub mod Holding
 mod Fetching
 mod Tags
 mod Changing
+pub mod Kept
+pub mod Histories

@@ -28,6 +28,15 @@ module _ (tag : ℕ) where
       go ih true q = rw (q, without) (add-one (length C))
       go ih false q = let e′ : isHeld tag C ≡ true = rw q at e in rw (q, without) (omega (arith, ih e′))
 
+  pub without-most : (C : List Congruence) → length (without tag C) ≤ length C
+  unfolding without
+  without-most [] = omega arith
+  without-most (c ∷ C) = go (without-most C) (eqb (c .tag) tag) refl
+    where
+      go : length (without tag C) ≤ length C → (b : Bool) → eqb (c .tag) tag ≡ b → length (without tag (c ∷ C)) ≤ suc (length C)
+      go ih true q = rw (q, without) (omega arith)
+      go ih false q = rw (q, without) (omega (arith, ih))
+
   pub in-without : (C : List Congruence) {c : Congruence} → In c (without tag C) → In c C
   unfolding without
   in-without [] u = u

@@ -1,5 +1,6 @@
 -- Histories (02, 2.6): "From opening on, each call given the state as the one before left it, every answer is that of a plain set of tagged
 -- congruences".
+use mathlib.Core.Path.{_≡_}
 use mathlib.Core.List.{List, [], _∷_}
 use Prim.Native.Nat.{ℕ}
 use lib.IntN.{ℤ}
@@ -7,11 +8,12 @@ use lib.ListN.{length}
 use Rattle.systems.specs.declared.System.{System}
 use Rattle.systems.specs.declared.Changed.{Changed}
 use Rattle.systems.specs.declared.Outcome.{Outcome}
+use Rattle.systems.specs.declared.Outcome.the-variants.{Done}
 use Rattle.systems.specs.declared.Fetched.{Fetched}
-use Rattle.systems.specs.Model.{Model}
+use Rattle.systems.specs.Model.{Model, model}
 use Rattle.systems.specs.Calls.{doneOr, addVerdict, afterAdd, withdrawVerdict, afterWithdraw}
 use Rattle.systems.specs.Calls.{fetchedOf, fetchedResidues, fetchedLevels}
-use Rattle.systems.specs.State.{Added, Withdrawn, Fetches}
+use Rattle.systems.specs.State.{Holds, openedOf, Added, Withdrawn, Fetches}
 
 -- a call: fetching with the lists as lent
 pub data Call : Type 0 where
@@ -56,3 +58,15 @@ answersOf M (call ∷ calls) = answerOf M call ∷ answersOf (after M call) call
 unfoldable pub afterAll : Model → List Call → Model
 afterAll M [] = M
 afterAll M (call ∷ calls) = afterAll (after M call) calls
+
+-- What is promised of a row of calls
+
+-- "From opening on, each call given the state as the one before left it": the row begins with the system that an accepted opening gives
+pub record FromOpening (p n : ℕ) (calls : List Call) (answers : List Answer) (s : System) : Type 0 where
+  pub opened : openedOf p n .outcome ≡ Done
+  pub row : History (openedOf p n .system) calls answers s
+
+-- "every answer is that of a plain set of tagged congruences", and the last state is one to go on with
+pub record AsModel (p n : ℕ) (calls : List Call) (answers : List Answer) (s : System) : Type 0 where
+  pub answers-are : answers ≡ answersOf (model p n []) calls
+  pub holds : Holds s (afterAll (model p n []) calls)
