@@ -47,6 +47,10 @@ solves-next p n C c = fun-ext (at C)
         ap (λ (b : Bool). roots (d .coefficients) p n r && b) (at D r)
         ∙ and-assoc (roots (d .coefficients) p n r) (solvesAll p n D r) (roots (c .coefficients) p n r)
 
+pub solves-one : (p n : ℕ) (c : Congruence) → solvesAll p n (c ∷ []) ≡ roots (c .coefficients) p n
+unfolding solvesAll
+solves-one p n c = fun-ext (λ r. and-true (roots (c .coefficients) p n r))
+
 -- Everything
 
 module _ (p n : ℕ) (two : 2 ≤ p) where
@@ -82,9 +86,7 @@ module _ (p n : ℕ) (U : Usable p n (p ^ n)) where
   list-most : (c : Congruence) (C : List Congruence) → ((d : Congruence) → In d (c ∷ C) → length (d .coefficients) ≤ 65)
       → length (signedList (solvesAll p n (c ∷ C)) p n) ≤ 64 * length (c ∷ C)
   unfolding solvesAll
-  list-most c [] few =
-      let same : solvesAll p n (c ∷ []) ≡ roots (c .coefficients) p n = fun-ext (λ r. and-true (roots (c .coefficients) p n r)) in
-      rw same (list-one c (few c (here refl)))
+  list-most c [] few = rw (solves-one p n c) (list-one c (few c (here refl)))
   list-most c (d ∷ C) few =
       let ih = list-most d C (λ e u. few e (there u)) in
       omega (

@@ -11,3 +11,8 @@ mod Tags
 mod Changing
 pub mod Kept
 pub mod Histories
+pub mod Sets
+pub mod CommonList
+pub mod Withdrawal
+pub mod Distinct
+pub mod Examples

@@ -7,11 +7,16 @@ use Prim.Native.Nat.{ℕ, suc, _+_, _≤_, _<_}
 use native.Mathlib.Numerals.{add-one}
 use native.Mathlib.Omega.{arith}
 use lib.Dec.{eqb}
+use lib.IntN.{ℤ}
 use lib.ListN.{length}
 use Rattle.theory.specs.Lists.{In, here, there}
 use Rattle.theory.proofs.Lists.Names.{in-append, in-single}
+use Rattle.refusal.specs.declared.Refusal.the-variants.{Tag}
+use Rattle.refusal.specs.Rules.{passes, rule2, rule3, rule15, rule16}
+use Rattle.refusal.proofs.Rules.{tried-first, rule-passes}
 use Rattle.systems.specs.declared.Held.{Held}
-use Rattle.systems.specs.Model.{Congruence, isHeld, without}
+use Rattle.systems.specs.Model.{Congruence, Model, isHeld, without}
+use Rattle.systems.specs.Calls.{addVerdict}
 use Rattle.systems.specs.State.{heldFor, heldOf}
 use Rattle.systems.specs.inner.Slots.{tagIndex, removedAt, Polynomials}
 
@@ -105,3 +110,13 @@ polynomials-next C c P some few =
 
 pub polynomials-without : (tag : ℕ) (C : List Congruence) → Polynomials C → Polynomials (without tag C)
 polynomials-without tag C P = record { some = λ d u. P .some d (in-without tag C u); few = λ d u. P .few d (in-without tag C u) }
+
+-- a tag under which a polynomial is added is not held before
+pub passed-unheld : (M : Model) (tag : ℕ) (f : List ℤ) → addVerdict M tag f ≡ passes → isHeld tag (M .held) ≡ false
+unfolding addVerdict
+passed-unheld M tag f e =
+    let unheld = rule15 (isHeld tag (M .held)) in
+    let room = rule16 (length (M .held)) in
+    let two = tried-first (rule2 (length f)) (rule3 (length f) ∷ unheld ∷ room ∷ []) e in
+    let three = tried-first (rule3 (length f)) (unheld ∷ room ∷ []) (two .1) in
+    rule-passes (isHeld tag (M .held)) Tag (tried-first unheld (room ∷ []) (three .1) .0)

@@ -3,4 +3,5 @@ pub mod Model
 pub mod Calls
 pub mod State
 pub mod History
+pub mod Examples
 pub mod inner
