@@ -69,16 +69,14 @@ fn open_step(p: u32, n: u32, system: System) -> SystemStep
     ensures system { λ r. ⌜ r .system ≡ openedInto p n system ⌝ }
 {
     let opened = systems::open(p, n);
+    let empty = opened.system;
     let outcome = opened.outcome;
     let answer = system_answer(outcome);
     match outcome {
-        Outcome::Done => {
-            let empty = opened.system;
-            SystemStep {
-                system: empty,
-                answer,
-            }
-        }
+        Outcome::Done => SystemStep {
+            system: empty,
+            answer,
+        },
         Outcome::Refused(_) => SystemStep { system, answer },
     }
 }
@@ -89,10 +87,10 @@ fn add_step(system: System, tag: u32, coefficients: &[i64]) -> SystemStep
     ensures system { λ r. ⌜ ((M : Model) → Holds system M → r .system ≡ addedOf M tag (now (coefficients .entry)) .system) ⌝ }
 {
     let added = systems::add(system, tag, coefficients);
-    let next = added.system;
+    let more = added.system;
     let outcome = added.outcome;
     SystemStep {
-        system: next,
+        system: more,
         answer: system_answer(outcome),
     }
 }
@@ -102,10 +100,10 @@ fn withdraw_step(system: System, tag: u32) -> SystemStep
     ensures system { λ r. ⌜ ((M : Model) → Holds system M → r .system ≡ withdrawnOf M tag .system) ⌝ }
 {
     let withdrawn = systems::withdraw(system, tag);
-    let next = withdrawn.system;
+    let left = withdrawn.system;
     let outcome = withdrawn.outcome;
     SystemStep {
-        system: next,
+        system: left,
         answer: system_answer(outcome),
     }
 }

@@ -16,19 +16,23 @@ outcome-is p n e = ap (λ (r : Changed). r .outcome) e
 
 returns : tie.Need-returns
 returns c =
-    let a = c .before .before .before .before .before .args in
-    let e = c .before .before .before .before .«open» .ensures in
-    let done = sym (ap (λ (r : Changed). r .outcome) e) ∙ c .before .enum-told .given .1 in (
-      c .before .before .before .system-answer .ensures ∙ ap systemAnswer (outcome-is (a .p) (a .n) e),
+    let answered = c .before .before in
+    let a = answered .before .before .before .args in
+    let e = answered .before .before .«open» .ensures in
+    let done = sym (ap (λ (r : Changed). r .outcome) e) ∙ c .enum-told .given .1 in
+    (
+      answered .system-answer .ensures ∙ ap systemAnswer (outcome-is (a .p) (a .n) e),
       ap (λ (r : Changed). r .system) e ∙ sym (opened-done (a .p) (a .n) (a .system) done),
     )
 
 returns-2 : tie.Need-returns-2
 returns-2 c =
-    let a = c .before .before .before .before .args in
-    let e = c .before .before .before .«open» .ensures in
-    let refused = sym (ap (λ (r : Changed). r .outcome) e) ∙ c .enum-told2 .given .1 in (
-      c .before .before .system-answer .ensures ∙ ap systemAnswer (outcome-is (a .p) (a .n) e),
+    let answered = c .before .before in
+    let a = answered .before .before .before .args in
+    let e = answered .before .before .«open» .ensures in
+    let refused = sym (ap (λ (r : Changed). r .outcome) e) ∙ c .enum-told2 .given .1 in
+    (
+      answered .system-answer .ensures ∙ ap systemAnswer (outcome-is (a .p) (a .n) e),
       sym (opened-kept (a .p) (a .n) (a .system) _ refused),
     )
 
