@@ -2,7 +2,7 @@
 use refusal::Refusal;
 
 pub(crate) struct Answer {
-    // k for classes, y, n, f for filled, p for simple digits, r for refused, # for a number
+    // k for classes, y, n, d for done, f for filled, p for simple digits, r for refused, # for a number
     pub(crate) letter: u8,
     pub(crate) first: u64,
     pub(crate) second: u64,

@@ -2,7 +2,8 @@
 // after a ; the coefficients; after a | the call; after a : the expected answer. Call and answer are printed, and the last line counts the
 // answers that differ. The letters: s solver, l the solver's number of live classes, e counts at every precision, u raise of a list (after
 // the slots the lengths of the given lists, if not those of the call), t test, q test of eight points, n next, m map, c count of bytes, d
-// count of the map of 0/1, w writer, r stepping, h simple digits.
+// count of the map of 0/1, w writer, r stepping, h simple digits; o opening of a system, and on the one that the cases before have left a
+// adding, v withdrawal, f fetching.
 //
 // A number modulo a bound above its range, as in `at % 256`, is the number: the checker then needs no proof of the range.
 mod answer;
@@ -19,6 +20,7 @@ mod rows;
 mod simple;
 mod solving;
 mod steps;
+mod system;
 mod writing;
 
 use answer::Answer;
@@ -28,12 +30,15 @@ use rows::Row;
 use rows::byte_at;
 use rows::numbers;
 use std::num::wrapping_add_u32;
+use system::Turn;
+use systems::System;
 
-// The place in the input, how many cases there were, and how many answers differ from the expected ones.
+// The place in the input, how many cases there were, how many answers differ from the expected ones, and the system.
 struct State {
     at: usize,
     cases: u32,
     differ: u32,
+    system: System,
 }
 
 // Prints a part of the text.
@@ -94,6 +99,28 @@ fn answer_to(
     }
 }
 
+// The answer, and the system after it.
+fn answered(
+    operation: u8,
+    system: System,
+    slots: Row,
+    given: Row,
+    said: Row,
+    expected: Row,
+    text: &[u8],
+) -> Turn {
+    match operation {
+        b'o' => system::open(call::read(said)),
+        b'a' => system::add(system, given, said),
+        b'v' => system::withdraw(system, said),
+        b'f' => system::fetch(system, slots, expected),
+        _ => Turn {
+            system,
+            answer: answer_to(operation, slots, given, said, expected, text),
+        },
+    }
+}
+
 // The letter of the answer that stands at a place: # for a number.
 fn letter_at(text: &[u8], at: usize) -> u8 {
     let b = byte_at(text, at % 65536 + 1);
@@ -110,7 +137,10 @@ fn case(text: &[u8], s: State) -> State {
     let given = numbers(text, slots.next, b'|');
     let said = numbers(text, given.next, b':');
     let expected = numbers(text, said.next, b'\n');
-    let a = answer_to(operation, slots, given, said, expected, text);
+    let before = s.system;
+    let turn = answered(operation, before, slots, given, said, expected, text);
+    let system = turn.system;
+    let a = turn.answer;
     let same = a.same
         & (a.letter == letter_at(text, said.next))
         & (a.first == expected.item(0))
@@ -123,6 +153,7 @@ fn case(text: &[u8], s: State) -> State {
         at: expected.next,
         cases: s.cases % 1000 + 1,
         differ: wrapping_add_u32(s.differ, !same as u32),
+        system,
     }
 }
 
@@ -133,10 +164,12 @@ fn line(text: &[u8], s: State) -> State {
     }
     let row = numbers(text, s.at, b'\n');
     print(text, s.at, row.next);
+    let system = s.system;
     State {
         at: row.next,
         cases: s.cases,
         differ: s.differ,
+        system,
     }
 }
 
@@ -146,6 +179,7 @@ fn run(text: &[u8]) -> State {
         at: 0,
         cases: 0,
         differ: 0,
+        system: system::unopened(),
     };
     let mut i: u32 = 0;
     while i < 1000 {

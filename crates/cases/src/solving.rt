@@ -69,21 +69,47 @@ pub(crate) fn solve(
     }
 }
 
-// Whether slot i has these numbers.
-fn is_slot(
-    residues: [i32; 66],
-    levels: [u8; 66],
-    marks: [u8; 66],
-    i: usize,
-    a: i32,
-    t: u64,
-    mark: u64,
-) -> bool {
+// Whether slot i has this class.
+fn is_slot(residues: [i32; 66], levels: [u8; 66], i: usize, a: i32, t: u64) -> bool {
     let i = i % 66;
-    (residues[i] == a) & (levels[i] as u64 == t) & (marks[i] as u64 == mark)
+    (residues[i] == a) & (levels[i] as u64 == t)
 }
 
-// Whether the first k slots have the expected classes and marks, and the later ones 77.
+// Whether the first k slots have the expected classes, and the later ones 77.
+pub(crate) fn same_classes(residues: [i32; 66], levels: [u8; 66], k: usize, expected: Row) -> bool {
+    let mut i: usize = 0;
+    while i < 66 {
+        let mut a = 77;
+        let mut t = 77;
+        if i < k {
+            a = expected.residue(i * 2 + 2);
+            t = expected.item(i * 2 + 3);
+        }
+        if !is_slot(residues, levels, i, a, t) {
+            return false;
+        }
+        i += 1;
+    }
+    true
+}
+
+// The same of the marks, which stand after the classes.
+fn same_marks(marks: [u8; 66], k: usize, expected: Row) -> bool {
+    let mut i: usize = 0;
+    while i < 66 {
+        let mut mark = 77;
+        if i < k {
+            mark = expected.item(i + k % 67 * 2 + 2);
+        }
+        if marks[i] as u64 != mark {
+            return false;
+        }
+        i += 1;
+    }
+    true
+}
+
+// The same of classes with marks.
 pub(crate) fn same(
     residues: [i32; 66],
     levels: [u8; 66],
@@ -91,22 +117,7 @@ pub(crate) fn same(
     k: usize,
     expected: Row,
 ) -> bool {
-    let mut i: usize = 0;
-    while i < 66 {
-        let mut a = 77;
-        let mut t = 77;
-        let mut mark = 77;
-        if i < k {
-            a = expected.residue(i * 2 + 2);
-            t = expected.item(i * 2 + 3);
-            mark = expected.item(i + k % 67 * 2 + 2);
-        }
-        if !is_slot(residues, levels, marks, i, a, t, mark) {
-            return false;
-        }
-        i += 1;
-    }
-    true
+    same_classes(residues, levels, k, expected) & same_marks(marks, k, expected)
 }
 
 pub(crate) fn test(f: [i64; 256], c: usize, call: Call) -> Answer {
