@@ -19,8 +19,7 @@ returns c =
     let answered = c .before .before in
     let a = answered .before .before .before .args in
     let e = answered .before .before .«open» .ensures in
-    let done = sym (ap (λ (r : Changed). r .outcome) e) ∙ c .enum-told .given .1 in
-    (
+    let done = sym (ap (λ (r : Changed). r .outcome) e) ∙ c .enum-told .given .1 in (
       answered .system-answer .ensures ∙ ap systemAnswer (outcome-is (a .p) (a .n) e),
       ap (λ (r : Changed). r .system) e ∙ sym (opened-done (a .p) (a .n) (a .system) done),
     )
@@ -30,8 +29,7 @@ returns-2 c =
     let answered = c .before .before in
     let a = answered .before .before .before .args in
     let e = answered .before .before .«open» .ensures in
-    let refused = sym (ap (λ (r : Changed). r .outcome) e) ∙ c .enum-told2 .given .1 in
-    (
+    let refused = sym (ap (λ (r : Changed). r .outcome) e) ∙ c .enum-told2 .given .1 in (
       answered .system-answer .ensures ∙ ap systemAnswer (outcome-is (a .p) (a .n) e),
       sym (opened-kept (a .p) (a .n) (a .system) _ refused),
     )
