@@ -30,6 +30,25 @@ The classes at one precision raised to a higher one, and other lists of classes,
 >>> raise_precision([0], 2, 1, 3, [(0, 1), (1, 1)])
 [Class(residue=0, level=0, mark=0)]
 
+The common roots of polynomials that come and go, each under a tag; with none held every residue is one:
+
+>>> system = System(2, 4)
+>>> system.count()
+16
+>>> system.add(7, [-1, 0, 1])
+>>> system.classes()
+[Class(residue=-1, level=3, mark=None), Class(residue=1, level=3, mark=None)]
+>>> system.add(9, [-1, 1])
+>>> system.classes(), system.count()
+([Class(residue=1, level=4, mark=None)], 1)
+>>> system.withdraw(9)
+>>> system.count()
+4
+>>> system.add(7, [-1, 1])
+Traceback (most recent call last):
+    ...
+wimpleclay.Refused: rule 15, place 0
+
 Many points are tested in one call. A point that is not below p^n has the answer None:
 
 >>> test_points([-1, 0, 1], 2, 4, [0, 1, 7, 16, 9])
@@ -72,10 +91,11 @@ import ctypes
 import os
 from array import array
 from ctypes import POINTER, c_int32, c_int64, c_size_t, c_uint8, c_uint32, c_uint64
-from typing import NamedTuple
+from typing import NamedTuple, Optional
 
 MAX_CLASSES = 64
 MAX_RAISED = 128
+MAX_COMMON = 1024
 MAX_COUNTS = 32
 POINT = 8
 COMPOSITE = 14
@@ -97,18 +117,25 @@ class Class(NamedTuple):
     """The residues congruent to residue modulo p^level, where -p^level < 2 * residue <= p^level.
 
     mark is 1 if they are all simple roots, 0 if none is, 2 if only some are. A root r is simple if p does not divide g'(r), where g is
-    the polynomial divided by the largest power of p common to its coefficients modulo p^n; if all these are 0, mark is 0.
+    the polynomial divided by the largest power of p common to its coefficients modulo p^n; if all these are 0, mark is 0. mark is None if
+    the class is one of common roots, which have no marks.
     """
 
     residue: int
     level: int
-    mark: int
+    mark: Optional[int] = None
 
 
 class _Query(ctypes.Structure):
     """A point and the place for its answer."""
 
     _fields_ = [("point", c_uint32), ("answer", c_uint32)]
+
+
+class _System(ctypes.Structure):
+    """A system as the library keeps it."""
+
+    _fields_ = [("bytes", c_uint64 * 1300)]
 
 
 def _word(value):
@@ -156,6 +183,12 @@ _raise = _function(
     [("classes", c_size_t), ("roots", c_uint64)],
     (*_problem, c_uint32, *_residues, *_levels, *_residues, *_levels, *_marks),
 )
+_system_open = _function("system_open", [], (c_uint32, c_uint32, POINTER(_System)))
+_system_add = _function("system_add", [], (POINTER(_System), c_uint32, *_list(c_int64)))
+_system_withdraw = _function("system_withdraw", [], (POINTER(_System), c_uint32))
+_system_fetch = _function(
+    "system_fetch", [("classes", c_size_t), ("roots", c_uint64)], (POINTER(_System), *_residues, *_levels)
+)
 _next_root = _function(
     "next_root", [("found", c_uint32), ("root", c_uint32)], (c_uint32, c_uint32, *_residues, *_levels, c_uint32)
 )
@@ -172,9 +205,9 @@ def _row(coefficients):
     return _lent(c_int64, "q", coefficients)
 
 
-def _lists(slots):
-    """Lists to be filled, and the same as they are lent."""
-    lists = [(of * slots)() for of in (c_int32, c_uint8, c_uint8)]
+def _lists(slots, types=(c_int32, c_uint8, c_uint8)):
+    """Lists to be filled, and the same as they are lent: of residues, of levels and, unless the types say otherwise, of marks."""
+    lists = [(of * slots)() for of in types]
     return lists, [x for one in lists for x in (one, slots)]
 
 
@@ -257,3 +290,36 @@ def iterate(coefficients, p, n, start=0):
 def roots(coefficients, p, n):
     """The roots, rising."""
     return list(iterate(coefficients, p, n))
+
+
+class System:
+    """The common roots modulo p^n of up to 16 polynomials, each under a tag of the caller's choice, which come and go at any time.
+
+    A refused call leaves what is held as it was: rule 15 if the tag is held already (add) or not held (withdraw), rule 16 if 16
+    polynomials are held (add).
+    """
+
+    def __init__(self, p, n):
+        self._system = _System()
+        _system_open(p, n, self._system)
+
+    def add(self, tag, coefficients):
+        """Adds a polynomial under the tag, from 0 to 2^32 - 1. The same polynomial may be held under several tags."""
+        _system_add(self._system, tag, *_row(coefficients))
+
+    def withdraw(self, tag):
+        """Withdraws the polynomial of the tag: all is then as if it had never come."""
+        _system_withdraw(self._system, tag)
+
+    def _fetched(self):
+        """The library's answer, and its lists."""
+        lists, lent = _lists(MAX_COMMON, (c_int32, c_uint8))
+        return _system_fetch(self._system, *lent), lists
+
+    def classes(self):
+        """The root classes of all polynomials held, rising by residue: the shortest list there is. They have no marks."""
+        return _classes(*self._fetched())
+
+    def count(self):
+        """The number of common roots."""
+        return self._fetched()[0].roots
