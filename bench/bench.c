@@ -1,5 +1,5 @@
 /* bench: the CPU time of the library on named problems, beside FLINT and PARI where they are compiled in
-   (-DWITH_FLINT, -DWITH_PARI). It prints five tables in Markdown and fails if a peer finds other roots. */
+   (-DWITH_FLINT, -DWITH_PARI). It prints six tables in Markdown and fails if a peer finds other roots. */
 #include "bench.h"
 
 #include <signal.h>
@@ -275,6 +275,7 @@ int main(void)
     all = print_points() && all;
     all = print_counts() && all;
     all = print_raised() && all;
+    all = print_systems() && all;
     if (!all)
         fprintf(stderr, "bench: a call was refused, or a peer found other roots\n");
     return !all;

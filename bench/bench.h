@@ -43,6 +43,9 @@ int print_counts(void);
 /* Prints the table of lists raised to a higher precision. Returns whether they are the solver's there. */
 int print_raised(void);
 
+/* Prints the table of systems. Returns whether adding and withdrawing a polynomial leave the right ones. */
+int print_systems(void);
+
 /* The least time of one call, over batches of calls that fill half a second. */
 double time_of(int (*call)(void));
 
