@@ -12,6 +12,10 @@ int main(void)
     test_counts();
     test_raised_cases();
     test_raised();
+    test_system_cases();
+    test_systems();
+    test_large_systems();
+    test_made_systems();
     test_lists();
     test_ones();
     test_texts();

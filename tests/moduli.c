@@ -1,4 +1,5 @@
-/* Rules 4, 14 and 5 in every operation that takes p and n, for every p up to 66000, against trial division. */
+/* Rules 4, 14 and 5 in every operation that takes p and n, for every p up to 66000, against trial division. Opening a system is tested
+   likewise among the cases of systems. */
 #include "check.h"
 #include "reference.h"
 #include "tests.h"

@@ -100,14 +100,13 @@ int in_list(uint32_t p, const list *l, int64_t x)
     return 0;
 }
 
-void raise_by_trial(const int64_t *f, size_t count, uint32_t p, uint32_t n, const list *given, list *s)
+void shortest_by_trial(uint32_t p, uint32_t n, list *s)
 {
     uint64_t m = power(p, n);
-    memset(s, 0, sizeof *s);
-    for (uint64_t r = 0; r < m; r++) {
-        s->member[r] = value(f, count, r, m) == 0 && in_list(p, given, (int64_t)r);
+    s->k = 0;
+    s->members = 0;
+    for (uint64_t r = 0; r < m; r++)
         s->members += s->member[r];
-    }
     for (int64_t z = -(int64_t)m; z <= (int64_t)m; z++)
         for (uint32_t t = 0; t <= n; t++) {
             uint64_t step = power(p, t);
@@ -115,9 +114,19 @@ void raise_by_trial(const int64_t *f, size_t count, uint32_t p, uint32_t n, cons
                 (t > 0 && whole(s->member, z, step / p, m)))
                 continue;
             s->residues[s->k] = (int32_t)z;
-            s->levels[s->k] = (uint8_t)t;
-            s->marks[s->k++] = mark(f, count, z, step, p, m);
+            s->levels[s->k++] = (uint8_t)t;
         }
+}
+
+void raise_by_trial(const int64_t *f, size_t count, uint32_t p, uint32_t n, const list *given, list *s)
+{
+    uint64_t m = power(p, n);
+    memset(s, 0, sizeof *s);
+    for (uint64_t r = 0; r < m; r++)
+        s->member[r] = value(f, count, r, m) == 0 && in_list(p, given, (int64_t)r);
+    shortest_by_trial(p, n, s);
+    for (size_t i = 0; i < s->k; i++)
+        s->marks[i] = mark(f, count, s->residues[i], power(p, s->levels[i]), p, m);
 }
 
 void solve_by_trial(const int64_t *f, size_t count, uint32_t p, uint32_t n, list *s)

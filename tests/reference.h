@@ -49,7 +49,11 @@ uint64_t value(const int64_t *f, size_t count, uint64_t x, uint64_t m);
 /* The number of residues below m at which m divides f. */
 uint64_t count_by_trial(const int64_t *f, size_t count, uint64_t m);
 
-/* The root classes of f: the whole classes that lie in no larger whole class, rising by the residue of least size. */
+/* The shortest list of the members that are set: the whole classes that lie in no larger whole class, rising by the residue of least size.
+   Marks stay as they are. */
+void shortest_by_trial(uint32_t p, uint32_t n, list *s);
+
+/* The root classes of f, with their marks. */
 void solve_by_trial(const int64_t *f, size_t count, uint32_t p, uint32_t n, list *s);
 
 /* Whether x is in a class of the list: congruent to its residue modulo p to the power of its level. */
