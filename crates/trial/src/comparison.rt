@@ -14,6 +14,7 @@ use crate::plain;
 use crate::plain::Roots;
 use crate::points;
 use crate::raised;
+use crate::rows;
 use crate::tally;
 use crate::tally::Tally;
 
@@ -85,5 +86,6 @@ pub(crate) fn run(polynomial: Polynomial, x: Modulus, mut tally: Tally) -> Tally
     tally = residues(polynomial, list, levels, k, x, roots, tally);
     tally = entries::compare(h, c, x, roots, s, tally::CLASSES, tally);
     tally = raised::compare(f, h, c, x, roots, s, tally);
+    tally = rows::compare(g, c, x, k, tally);
     mapped::compare(list, levels, k, x, roots, tally)
 }

@@ -3,7 +3,6 @@ use crate::coefficients::Polynomial;
 use crate::coefficients::Source;
 use crate::comparison;
 use crate::factors;
-use crate::factors::Factor;
 use crate::modular::Modulus;
 use crate::modular::power;
 use crate::random::draw;
@@ -17,13 +16,8 @@ pub(crate) fn pair(seed: u32, j: u32, x: Modulus, tally: Tally) -> Tally {
         (1 + draw(seed, 0, 5) % 65) as usize
     };
     let f = Polynomial::new(Source::Drawn(seed), [0; 65], c, x.m);
-    let factor = Factor {
-        e: 65,
-        d: 0,
-        a: power(x.p, j),
-    };
     let g = f.g;
-    let product = factors::multiply(g, factor, x.m);
+    let product = factors::multiply(g, factors::constant(power(x.p, j)), x.m);
     let scaled = Polynomial::new(Source::Residues(seed), product, c, x.m);
     comparison::run(scaled, x, comparison::run(f, x, tally))
 }

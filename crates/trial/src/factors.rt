@@ -12,6 +12,11 @@ pub(crate) struct Factor {
     pub(crate) a: u32,
 }
 
+// The factor a: the term x^65 is past the coefficients of a product.
+pub(crate) fn constant(a: u32) -> Factor {
+    Factor { e: 65, d: 0, a }
+}
+
 // The factor x^e − a·x^d modulo m.
 fn less(e: u32, a: u32, d: u32, m: u32) -> Factor {
     let b = wrapping_sub_u32(m, multiply_add(a, 1, 0, m));

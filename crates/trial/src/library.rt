@@ -8,8 +8,12 @@ use solver::Query;
 use solver::Raised;
 use solver::Solved;
 use solver::Tested;
+use systems::Changed;
+use systems::Fetched;
+use systems::Outcome;
+use systems::System;
 
-// The solver's answer and its lists after the call.
+// The answer of a call that fills lists, and the lists after it.
 pub(crate) struct Solution {
     // the number of classes, and 65 for a refusal
     pub(crate) k: usize,
@@ -165,5 +169,59 @@ pub(crate) fn count(bits: [u8; 64], bytes: usize, x: Modulus) -> u64 {
     match rootmap::count_map(x.p, x.n, prefix::bytes(&bits, bytes)) {
         Counted::Ones(ones) => ones,
         Counted::Refused(_) => 4294967296,
+    }
+}
+
+// A system after a call, and the answer: 0 for done, otherwise the number of the refusal.
+pub(crate) struct Call {
+    pub(crate) system: System,
+    pub(crate) answer: u32,
+}
+
+fn answered(changed: Changed) -> Call {
+    let system = changed.system;
+    let outcome = changed.outcome;
+    match outcome {
+        Outcome::Done => Call { system, answer: 0 },
+        Outcome::Refused(refusal) => Call {
+            system,
+            answer: refusal.number(),
+        },
+    }
+}
+
+pub(crate) fn open(x: Modulus) -> Call {
+    answered(systems::open(x.p, x.n))
+}
+
+pub(crate) fn add(system: System, tag: u32, f: [i64; 65], c: usize) -> Call {
+    answered(systems::add(system, tag, prefix::coefficients(&f, c)))
+}
+
+pub(crate) fn withdraw(system: System, tag: u32) -> Call {
+    answered(systems::withdraw(system, tag))
+}
+
+// The common list; every slot holds 77 before the call, and those of marks after it.
+pub(crate) fn fetch(system: System) -> Solution {
+    let mut residues = [77i32; 65];
+    let mut levels = [77u8; 65];
+    match systems::fetch(system, &mut residues, &mut levels) {
+        Fetched::Found { classes, roots } => Solution {
+            k: classes,
+            roots,
+            live: 0,
+            residues,
+            levels,
+            marks: [77; 65],
+        },
+        Fetched::Refused(_) => Solution {
+            k: 65,
+            roots: 0,
+            live: 0,
+            residues,
+            levels,
+            marks: [77; 65],
+        },
     }
 }

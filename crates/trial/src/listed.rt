@@ -10,12 +10,12 @@ use crate::table::byte;
 use crate::table::residue;
 use std::num::wrapping_add_u32;
 
-// Whether all of so many members of the class of r modulo q are roots.
-fn is_whole(roots: Roots, r: u32, q: u32, members: u32) -> bool {
+// Whether all of so many members of the class of r modulo q are roots, where `at` is the table of roots.
+fn is_whole(at: &[u8; 520], r: u32, q: u32, members: u32) -> bool {
     let mut a = multiply_add(r, 1, 0, q);
     let mut i: u32 = 0;
     while i < members {
-        if roots.at(a) == 0 {
+        if at[(a % 520) as usize] == 0 {
             return false;
         }
         a = a % 512 + q % 512;
@@ -25,15 +25,15 @@ fn is_whole(roots: Roots, r: u32, q: u32, members: u32) -> bool {
 }
 
 // The level of the largest whole class of r, and n + 1 where r is no root.
-pub(crate) fn level(roots: Roots, x: Modulus, r: u32) -> u32 {
+pub(crate) fn level(at: &[u8; 520], x: Modulus, r: u32) -> u32 {
     let none = x.n % 64 + 1;
-    if roots.at(multiply_add(r, 1, 0, x.m)) == 0 {
+    if at[(multiply_add(r, 1, 0, x.m) % 520) as usize] == 0 {
         return none;
     }
     let mut t: u32 = 0;
     while t < none {
         let q = power(x.p, t);
-        if is_whole(roots, r, q, quotient(x.m, q)) {
+        if is_whole(at, r, q, quotient(x.m, q)) {
             return t;
         }
         t += 1;
@@ -54,6 +54,20 @@ pub(crate) fn memberships(residues: [i32; 65], levels: [u8; 65], k: usize, p: u3
         i += 1;
     }
     count
+}
+
+// How many residues are not in one class of the list where they are wanted, or in any where they are not.
+pub(crate) fn misplaced(s: Solution, x: Modulus, wanted: Roots) -> u32 {
+    let residues = s.residues;
+    let levels = s.levels;
+    let mut differ: u32 = 0;
+    let mut r: u32 = 0;
+    while r < x.m {
+        let count = memberships(residues, levels, s.k, x.p, r);
+        differ = wrapping_add_u32(differ, (count != wanted.at(r) as u32) as u32);
+        r += 1;
+    }
+    differ
 }
 
 // Whether the slots from k on hold what they held before the call.

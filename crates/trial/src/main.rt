@@ -1,7 +1,8 @@
 // Small polynomials against plain trial of residues: every answer of the solver, of the test of one and of many points, of next and of the
 // map is compared with what evaluation at each residue gives, so are the counts at every precision and lists raised to a higher one, and
 // the number of live classes with a count by its definition. The roots above each simple digit are counted, and the class that holds them
-// is looked at. The last line says how many answers differ.
+// is looked at. In rows of calls on a system each call and the common list after it are compared with a plain set of tags and the residues
+// that solve all. The last line says how many answers differ.
 //
 // A number modulo a bound above its range, as in `c % 66`, is the number: the checker then needs no proof of the range.
 mod bound;
@@ -13,6 +14,7 @@ mod drawn;
 mod entries;
 mod factors;
 mod given;
+mod held;
 mod library;
 mod lifts;
 mod listed;
@@ -20,12 +22,14 @@ mod live;
 mod mapped;
 mod marks;
 mod modular;
+mod multiples;
 mod plain;
 mod points;
 mod prefix;
 mod products;
 mod raised;
 mod random;
+mod rows;
 mod signed;
 mod small;
 mod table;
@@ -85,7 +89,9 @@ fn families(x: Modulus, c: u32, mut tally: Tally) -> Tally {
 }
 
 fn main() {
-    let mut tally = Tally { counts: [0; 52] };
+    let mut tally = Tally {
+        counts: [0; tally::PLACES],
+    };
     let mut i: usize = 0;
     while i < 25 {
         let row = ROWS[i];

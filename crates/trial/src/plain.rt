@@ -25,14 +25,10 @@ pub(crate) fn evaluate(g: [u32; 65], c: usize, r: u32, m: u32) -> Value {
 // 1 at each root below m, 0 elsewhere, and the number of roots.
 pub(crate) struct Roots {
     pub(crate) count: u32,
-    at: [u8; 520],
+    pub(crate) at: [u8; 520],
 }
 
 impl Roots {
-    pub(crate) fn new(count: u32, at: [u8; 520]) -> Roots {
-        Roots { count, at }
-    }
-
     // 1 if r is a root, otherwise 0.
     pub(crate) fn at(self, r: u32) -> u8 {
         let i = r as usize;

@@ -58,21 +58,7 @@ fn among(given: Solution, x: Modulus, roots: Roots) -> Roots {
         count = wrapping_add_u32(count, wanted as u32);
         r += 1;
     }
-    Roots::new(count, at)
-}
-
-// How many residues are not in one class of the list where they are wanted, or in any where they are not.
-fn misplaced(s: Solution, x: Modulus, wanted: Roots) -> u32 {
-    let residues = s.residues;
-    let levels = s.levels;
-    let mut differ: u32 = 0;
-    let mut r: u32 = 0;
-    while r < x.m {
-        let count = listed::memberships(residues, levels, s.k, x.p, r);
-        differ = wrapping_add_u32(differ, (count != wanted.at(r) as u32) as u32);
-        r += 1;
-    }
-    differ
+    Roots { count, at }
 }
 
 // A list raised from precision j, where h has the c coefficients of f divided by p^s.
@@ -90,7 +76,7 @@ fn compare_list(
     let s = library::raise(f, c, x, j, given);
     let same = listed::unused(s) & (s.roots == wanted.count as u64);
     tally = tally.compare(tally::RAISED_ROOTS, same);
-    tally = tally.compare_many(tally::RAISED_MEMBER, x.m, misplaced(s, x, wanted));
+    tally = tally.compare_many(tally::RAISED_MEMBER, x.m, listed::misplaced(s, x, wanted));
     entries::compare(h, c, x, wanted, s, tally::RAISED_CLASSES, tally)
 }
 

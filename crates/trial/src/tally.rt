@@ -4,8 +4,11 @@ use std::num::wrapping_add_u64;
 
 // The number of comparisons of each kind, and after it the number of differences.
 pub(crate) struct Tally {
-    pub(crate) counts: [u64; 52],
+    pub(crate) counts: [u64; PLACES],
 }
+
+// How many places the table has.
+pub(crate) const PLACES: usize = 62;
 
 // The kinds, as places in the table.
 pub(crate) const POLYNOMIALS: usize = 0;
@@ -54,13 +57,22 @@ pub(crate) const RAISED_ROOTS: usize = 46;
 
 pub(crate) const RAISED: usize = 48;
 
-const DIFFERENCES: usize = 50;
+pub(crate) const CALL: usize = 50;
+
+// The same of a common list, which has no marks.
+pub(crate) const COMMON_CLASSES: usize = 52;
+
+pub(crate) const COMMON_MEMBER: usize = 56;
+
+pub(crate) const COMMON_ROOTS: usize = 58;
+
+const DIFFERENCES: usize = 60;
 
 impl Tally {
     // x more at a place.
     pub(crate) fn add(self, i: usize, x: u64) -> Tally {
         let mut counts = self.counts;
-        if i < 52 {
+        if i < PLACES {
             counts[i] = wrapping_add_u64(counts[i], x);
         }
         Tally { counts }
@@ -70,14 +82,14 @@ impl Tally {
     pub(crate) fn compare(self, kind: usize, same: bool) -> Tally {
         let differ = !same as u64;
         self.add(kind, 1)
-            .add(kind % 52 + 1, differ)
+            .add(kind % PLACES + 1, differ)
             .add(DIFFERENCES, differ)
     }
 
     // So many comparisons of a kind, of which so many differed.
     pub(crate) fn compare_many(self, kind: usize, count: u32, differ: u32) -> Tally {
         self.add(kind, count as u64)
-            .add(kind % 52 + 1, differ as u64)
+            .add(kind % PLACES + 1, differ as u64)
             .add(DIFFERENCES, differ as u64)
     }
 
@@ -89,8 +101,8 @@ impl Tally {
     // Prints a byte of the form: the number at a place for #. The place after it.
     fn put(self, b: u8, place: usize) -> usize {
         if b == b'#' {
-            io::print_decimal(STDOUT_FILENO, self.counts[place % 52]);
-            return place % 52 + 1;
+            io::print_decimal(STDOUT_FILENO, self.counts[place % PLACES]);
+            return place % PLACES + 1;
         }
         io::write_all(STDOUT_FILENO, &[b]);
         place
@@ -124,6 +136,11 @@ mark of a raised class: # compared, # differ
 member of a raised class exactly if a root of a given class: # compared, # differ
 root count of a raised list, later slots kept: # compared, # differ
 solver's list raised: # compared, # differ
+answer to a call on a system: # compared, # differ
+number of classes of a common list: # compared, # differ
+residue and level of a common class: # compared, # differ
+member of a common class exactly if a root of all: # compared, # differ
+root count of a common list, later slots kept: # compared, # differ
 differences in all: #
 ";
         let mut place: usize = 0;

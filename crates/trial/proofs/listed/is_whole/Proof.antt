@@ -5,13 +5,13 @@ use Rattle.trial.proofs.listed.is_whole.Statement.{statement}
 use Rattle.trial.proofs.listed.is_whole.Tie as tie
 
 abbrev Inv-loop : tie.InvT-loop
-Inv-loop roots r q members a₀ i₀ a i = Unit {0}
+Inv-loop at r q members a₀ i₀ a i = Unit {0}
 
 abbrev μ-loop : tie.MeasureT-loop
-μ-loop roots r q members a₀ i₀ a i = members - i
+μ-loop at r q members a₀ i₀ a i = members - i
 
 pub is-whole-spec : {M : Type 1} → statement M
 is-whole-spec =
     tie.close
-    (tie.spec Inv-loop μ-loop (λ c κs. search needs) (λ c. search needs) (λ c κs. search needs) (λ c. search needs) (λ c. search needs)
-    (λ c. search needs) (λ c. search needs) (λ c. search needs) (λ c. search needs))
+    (tie.spec Inv-loop μ-loop (λ c κs. search needs) (λ c. search needs) (λ c. search needs) (λ c. search needs) (λ c. search needs)
+    (λ c. search needs) (λ c. search needs) (λ c. search needs) (λ c. search needs) (λ c. search needs))

@@ -1,8 +1,8 @@
--- `trial::raised::misplaced` is safe and ends: the residues left fall.
+-- `trial::listed::misplaced` is safe and ends: the residues left fall.
 use Prim.Native.Nat.{_-_}
 use borrow.Author.Needs.{needs}
-use Rattle.trial.proofs.raised.misplaced.Statement.{statement}
-use Rattle.trial.proofs.raised.misplaced.Tie as tie
+use Rattle.trial.proofs.listed.misplaced.Statement.{statement}
+use Rattle.trial.proofs.listed.misplaced.Tie as tie
 
 abbrev Inv-loop : tie.InvT-loop
 Inv-loop s x wanted residues levels differ₀ r₀ differ r = Unit {0}
