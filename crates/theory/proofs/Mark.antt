@@ -69,16 +69,16 @@ mark_by_told false true e = absurd (omega arith)
 mark_by_told false false e = refl
 
 module _ (test : ℕ → Bool) (k : ℕ) where
-  abbrev pub markBelow : ℕ
-  markBelow = mark_by (all_below (λ i. not (test i)) k) (all_below test k)
+  abbrev pub mark_below : ℕ
+  mark_below = mark_by (all_below (λ i. not (test i)) k) (all_below test k)
 
   -- where all take one value it is the mark of that value
-  pub mark-constant : (b : Bool) → 0 < k → ((i : ℕ) → i < k → test i ≡ b) → markBelow ≡ mark_by (not b) b
+  pub mark-constant : (b : Bool) → 0 < k → ((i : ℕ) → i < k → test i ≡ b) → mark_below ≡ mark_by (not b) b
   mark-constant b pos h =
       ap₂ mark_by (all_constant (λ i. not (test i)) k (not b) pos (λ i l. ap not (h i l))) (all_constant test k b pos h)
 
   -- where two differ it is 2
-  pub mark-mixed : (i j : ℕ) → i < k → test i ≡ true → j < k → test j ≡ false → markBelow ≡ 2
+  pub mark-mixed : (i j : ℕ) → i < k → test i ≡ true → j < k → test j ≡ false → mark_below ≡ 2
   unfolding mark_by
   mark-mixed i j l e m f =
       let none : all_below (λ x. not (test x)) k ≡ false =
@@ -96,7 +96,7 @@ module _ (S : ℕ → Bool) (p n : ℕ) (hp : 0 < p) (periodic : Periodic S p) w
   unfolding mark_over
   mark-deep c deep = ap₂ mark_by (whole-deep (λ r. not (S r)) p n hp outside c deep) (whole-deep S p n hp periodic c deep)
 
-  pub mark-top : (c : Class) → c.level ≡ 0 → 0 < n → mark_over S p n c ≡ markBelow S p
+  pub mark-top : (c : Class) → c.level ≡ 0 → 0 < n → mark_over S p n c ≡ mark_below S p
   unfolding mark_over
   mark-top c top pos =
       rw top (ap₂ mark_by (whole_top (λ r. not (S r)) p n hp outside c.residue pos) (whole_top S p n hp periodic c.residue pos))

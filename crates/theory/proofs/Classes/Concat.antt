@@ -64,6 +64,7 @@ pub flat_in : {A : Type 0} (f : A → List Class) (l : List A) (c : A) (e : Clas
 unfolding flat
 flat_in f (x ∷ l) c e (here q) m = let w : In e (f x) = rw (← q) m in in_left (flat f l) w
 flat_in f (x ∷ l) c e (there u) m = in_right (f x) (flat_in f l c e u m)
+flat_in {A = A} f [] c e x'' m = elim x'' [ ]
 
 pub no_repeat_flat : {A : Type 0} (f : A → List Class) (l : List A) → NoRepeat l → ((c : A) → In c l → NoRepeat (f c))
     → ((c d : A) (e : Class) → In c l → In d l → In e (f c) → In e (f d) → c ≡ d) → NoRepeat (flat f l)

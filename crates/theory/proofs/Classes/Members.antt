@@ -40,6 +40,7 @@ pub members_complete : (p : ℕ) (l : List Class) (r : ℕ) (c : Class) → In c
 unfolding members
 members_complete p (d ∷ l) r c (here q) e = or_left (is_member p d r) (members p l r) (rw (← q) e)
 members_complete p (d ∷ l) r c (there u) e = or_right (is_member p d r) (members p l r) (members_complete p l r c u e)
+members_complete p [] r c x'' e = elim x'' [ ]
 
 -- the members of a rival are the set
 pub rival_members : (S : ℕ → Bool) (p n : ℕ) (R : List Class) → Rival S p n R → (r : ℕ) → r < p ^ n → members p R r ≡ S r

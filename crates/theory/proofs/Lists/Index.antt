@@ -26,6 +26,7 @@ in_take (y ∷ l) (suc i) x u = go (in_take l i x) (in-cons u)
 pub index_of : {A : Type 0} (l : List A) (d x : A) → In x l → (i : ℕ) × (i < length l) × (x ≡ get_or l i d)
 index_of (y ∷ l) d x (here e) = (0, omega arith, e)
 index_of (y ∷ l) d x (there u) = let (i, h, e) = index_of l d x u in (suc i, omega arith, e)
+index_of {A = A} [] d x x3 = elim x3 [ ]
 
 -- where no entry is repeated, equal entries stand at one index
 pub same_index : {A : Type 0} (l : List A) (d : A) → NoRepeat l → (i j : ℕ) → i < length l → j < length l → get_or l i d ≡ get_or l j d → i ≡ j

@@ -42,6 +42,7 @@ module _ {A : Type 0} (f : A → Bool) where
       go : In x (keep f l) → (b : Bool) → f y ≡ b → In x (keep f (y ∷ l))
       go ih true q = rw (keep-on y l q) (there ih)
       go ih false q = rw (keep-off y l q) ih
+  keep-in [] x x4 e = elim x4 [ ]
 
   pub keep-no-repeat : (l : List A) → NoRepeat l → NoRepeat (keep f l)
   unfolding keep

@@ -21,6 +21,7 @@ in_map {A} f (x ∷ l) b m = go (in_map f l b) (in-cons m)
 pub map_in : {A B : Type 0} (f : A → B) (l : List A) (a : A) → In a l → In (f a) (map f l)
 map_in f (x ∷ l) a (here e) = here (ap f e)
 map_in f (x ∷ l) a (there m) = there (map_in f l a m)
+map_in {A = A} {B = B} f [] a x' = elim x' [ ]
 
 pub map-append : {A B : Type 0} (f : A → B) (l m : List A) → map f (l ++ m) ≡ map f l ++ map f m
 map-append f [] m = refl

@@ -16,6 +16,7 @@ fold_min-le a (b ∷ l) = le_trans (min-le_right b (foldr min a l)) (fold_min-le
 fold_min_in_le : (a : ℕ) (l : List ℕ) (x : ℕ) → In x l → foldr min a l ≤ x
 fold_min_in_le a (b ∷ l) x (here q) = rw q (min-le_left b (foldr min a l))
 fold_min_in_le a (b ∷ l) x (there u) = le_trans (min-le_right b (foldr min a l)) (fold_min_in_le a l x u)
+fold_min_in_le a [] x x3 = elim x3 [ ]
 
 fold_min_in : (a : ℕ) (l : List ℕ) → In (foldr min a l) (a ∷ l)
 fold_min_in a [] = here refl
@@ -37,6 +38,7 @@ pub minimum-le : (l : List ℕ) (x : ℕ) → In x l → minimum l ≤ x
 unfolding minimum
 minimum-le (a ∷ l) x (here q) = rw q (fold_min-le a l)
 minimum-le (a ∷ l) x (there u) = fold_min_in_le a l x u
+minimum-le [] x x3 = elim x3 [ ]
 
 -- and is one of them
 pub minimum_in : (l : List ℕ) (x : ℕ) → In x l → In (minimum l) l

@@ -37,6 +37,7 @@ injective_on f (a ∷ l) nr x y (here q) (here r) e = q ∙ sym r
 injective_on f (a ∷ l) nr x y (here q) (there w) e = absurd (nr.0 (in-cast (ap f (sym q) ∙ e) (map_in f l y w)))
 injective_on f (a ∷ l) nr x y (there u) (here r) e = absurd (nr.0 (in-cast (ap f (sym r) ∙ sym e) (map_in f l x u)))
 injective_on f (a ∷ l) nr x y (there u) (there w) e = injective_on f l nr.1 x y u w e
+injective_on {A = A} {B = B} f [] nr x y x6 _ e = elim x6 [ ]
 
 -- where the images are not repeated, neither are the entries
 pub no_repeat_unmap : {A B : Type 0} (f : A → B) (l : List A) → NoRepeat (map f l) → NoRepeat l

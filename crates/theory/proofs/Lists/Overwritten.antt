@@ -97,7 +97,7 @@ pub written_map : {B : Type 0} (g : B → ℕ) (f : ℕ → B) (xs l₀ l : List
 written_map g f xs l₀ l h w =
     let n : length (map g (map f xs)) ≡ length xs = length-map (map f xs) g ∙ length-map xs f in
     rw n at (written_list _ (length xs) (map g (map f xs)) l₀ l w (sym n) h (λ k u.
-    ap g (sym (ListN.get_d_map f xs k 0)) ∙ sym (get_d_map g (map f xs) k (f 0) 0 (omega (arith, length-map xs f)))))
+    ap g (sym (ListN.get_or-map f xs k 0)) ∙ sym (get_d_map g (map f xs) k (f 0) 0 (omega (arith, length-map xs f)))))
 
 -- f of each entry stands in its place
 pub written_all : (f : ℕ → ℕ) (l₀ l : List ℕ) → Overwritten (λ k. f (get_or l₀ k 0)) 0 (length l₀) l₀ l → l ≡ map f l₀

@@ -33,19 +33,19 @@ live_below f p n (suc levels) d = d ∷ flat (λ c. live_below f p n levels (chi
 
 module _ (f : List ℕ) (p n : ℕ) where
   -- the digits at which a class has a live class below it
-  abbrev digitsAt : Class → List ℕ
-  digitsAt d = live_digits p (class_polynomial f p n d)
+  abbrev digits_at : Class → List ℕ
+  digits_at d = live_digits p (class_polynomial f p n d)
 
   -- the lists that stand below d
-  abbrev childrenOf : ℕ → Class → ℕ → List Class
-  childrenOf levels d c = live_below f p n levels (child_at p d c)
+  abbrev children_of : ℕ → Class → ℕ → List Class
+  children_of levels d c = live_below f p n levels (child_at p d c)
 
   length-is : (levels : ℕ) (d : Class) → length (live_below f p n levels d) ≡ live_from f p n levels d
   unfolding live_below live_from
   length-is zero d = refl
   length-is (suc levels) d =
-      ap suc (flat-length (childrenOf levels d) (digitsAt d)
-      ∙ ap (λ (h : ℕ → ℕ). sum_over h (digitsAt d)) (fun_ext (λ c. length-is levels (child_at p d c))))
+      ap suc (flat-length (children_of levels d) (digits_at d)
+      ∙ ap (λ (h : ℕ → ℕ). sum_over h (digits_at d)) (fun_ext (λ c. length-is levels (child_at p d c))))
 
   -- d comes first
   first : (levels : ℕ) (d : Class) → In d (live_below f p n levels d)
@@ -59,31 +59,31 @@ module _ (f : List ℕ) (p n : ℕ) where
   sound zero d e h u = rw (in-single u) h
   sound (suc levels) d e h u = go (λ c w. sound levels (child_at p d c) e (child_live d c h w)) (in-cons u)
     where
-      go : ((c : ℕ) → In c (digitsAt d) → In e (childrenOf levels d c) → Live f p n e)
-          → (e ≡ d) ⊎ In e (flat (childrenOf levels d) (digitsAt d)) → Live f p n e
+      go : ((c : ℕ) → In c (digits_at d) → In e (children_of levels d c) → Live f p n e)
+          → (e ≡ d) ⊎ In e (flat (children_of levels d) (digits_at d)) → Live f p n e
       go ih (inl q) = rw q h
-      go ih (inr w) = let (c, v, m) = in_flat (childrenOf levels d) (digitsAt d) e w in ih c v m
+      go ih (inr w) = let (c, v, m) = in_flat (children_of levels d) (digits_at d) e w in ih c v m
 
   module _ (P : Prime p) where
     hp : 0 < p
     hp = prime_pos P
 
     -- down to level n, with a class the list holds those live below it
-    closed : (levels : ℕ) (x d : Class) (c : ℕ) → n ≤ x.level + levels → In d (live_below f p n levels x) → In c (digitsAt d)
+    closed : (levels : ℕ) (x d : Class) (c : ℕ) → n ≤ x.level + levels → In d (live_below f p n levels x) → In c (digits_at d)
         → In (child_at p d c) (live_below f p n levels x)
     unfolding live_below
     closed zero x d c deep u w = absurd (in-nil (rw (in-single u, no-digits p P.two f n x (omega arith)) at w))
     closed (suc levels) x d c deep u w = go (λ y v. closed levels (child_at p x y) d c (omega arith) v w) (in-cons u)
       where
-        go : ((y : ℕ) → In d (childrenOf levels x y) → In (child_at p d c) (childrenOf levels x y))
-            → (d ≡ x) ⊎ In d (flat (childrenOf levels x) (digitsAt x))
-            → In (child_at p d c) (x ∷ flat (childrenOf levels x) (digitsAt x))
+        go : ((y : ℕ) → In d (children_of levels x y) → In (child_at p d c) (children_of levels x y))
+            → (d ≡ x) ⊎ In d (flat (children_of levels x) (digits_at x))
+            → In (child_at p d c) (x ∷ flat (children_of levels x) (digits_at x))
         go ih (inl q) =
-            let v : In c (digitsAt x) = rw q at w in
-            rw q (there (flat_in (childrenOf levels x) (digitsAt x) c (child_at p x c) v (first levels (child_at p x c))))
+            let v : In c (digits_at x) = rw q at w in
+            rw q (there (flat_in (children_of levels x) (digits_at x) c (child_at p x c) v (first levels (child_at p x c))))
         go ih (inr m) =
-            let (y, v, k) = in_flat (childrenOf levels x) (digitsAt x) d m in
-            there (flat_in (childrenOf levels x) (digitsAt x) y (child_at p d c) v (ih y k))
+            let (y, v, k) = in_flat (children_of levels x) (digits_at x) d m in
+            there (flat_in (children_of levels x) (digits_at x) y (child_at p d c) v (ih y k))
 
     -- so every live class is listed
     complete : (e : Class) → Live f p n e → In e (live_below f p n n (class 0 0))
@@ -100,11 +100,11 @@ module _ (f : List ℕ) (p n : ℕ) where
         t : ℕ
         t = d.level
 
-        go : ((c : ℕ) → c < p → In e (childrenOf levels d c) → (suc t ≤ e.level) × (e.residue % p ^ suc t ≡ d.residue + p ^ t * c))
-            → (e ≡ d) ⊎ In e (flat (childrenOf levels d) (digitsAt d)) → (t ≤ e.level) × (e.residue % p ^ t ≡ d.residue)
+        go : ((c : ℕ) → c < p → In e (children_of levels d c) → (suc t ≤ e.level) × (e.residue % p ^ suc t ≡ d.residue + p ^ t * c))
+            → (e ≡ d) ⊎ In e (flat (children_of levels d) (digits_at d)) → (t ≤ e.level) × (e.residue % p ^ t ≡ d.residue)
         go ih (inl q) = rw q (le_refl d.level, mod-eq_of_lt h)
         go ih (inr m) =
-            let (c, v, k) = in_flat (childrenOf levels d) (digitsAt d) e m in
+            let (c, v, k) = in_flat (children_of levels d) (digits_at d) e m in
             let w = ih c (digits_lt p (class_polynomial f p n d) c v) k in (
               omega (arith, w.0),
               sym (mod-mod_of_dvd (p ^ t) e.residue (pow_dvd p {t = t} {n = suc t} (omega arith)))
@@ -118,9 +118,9 @@ module _ (f : List ℕ) (p n : ℕ) where
     no_repeat zero d h = ((λ u. in-nil u), tt)
     no_repeat (suc levels) d h = (
       (λ u.
-          let (c, v, k) = in_flat (childrenOf levels d) (digitsAt d) d u in
+          let (c, v, k) = in_flat (children_of levels d) (digits_at d) d u in
           omega (arith, (inside levels (child_at p d c) d (low c v) k).0)),
-      no_repeat_flat (childrenOf levels d) (digitsAt d) (digits_no_repeat p (class_polynomial f p n d))
+      no_repeat_flat (children_of levels d) (digits_at d) (digits_no_repeat p (class_polynomial f p n d))
           (λ c u. no_repeat levels (child_at p d c) (low c u))
           (λ c x e u v w m.
           let q : d.residue + p ^ d.level * c ≡ d.residue + p ^ d.level * x =
@@ -128,7 +128,7 @@ module _ (f : List ℕ) (p n : ℕ) where
           eq_of_mul-eq-mul_left (p ^ d.level) (pow_pos p hp d.level) c x (omega arith)),
     )
       where
-        low : (c : ℕ) → In c (digitsAt d) → d.residue + p ^ d.level * c < p ^ suc d.level
+        low : (c : ℕ) → In c (digits_at d) → d.residue + p ^ d.level * c < p ^ suc d.level
         low c u = digit_lt p hp d.residue d.level c h (digits_lt p (class_polynomial f p n d) c u)
 
 -- the entries of l are the live classes, each once

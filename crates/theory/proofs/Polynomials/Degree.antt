@@ -35,6 +35,7 @@ nonzero_in (b ∷ f) a u h = go (λ w. nonzero_in f a w h) (eqb b 0) refl (in-co
     go ih true q (inr w) = rw (q, nonzero) (ih w)
     go ih false q (inl e) = rw (q, nonzero) (here e)
     go ih false q (inr w) = rw (q, nonzero) (there (ih w))
+nonzero_in [] a u h = elim u [ ]
 
 in_nonzero : (f : List ℕ) (a : ℕ) → In a (nonzero f) → In a f × (0 < a)
 unfolding nonzero

@@ -19,6 +19,7 @@ pub some_in : (test : ℕ → Bool) (f : List ℕ) (a : ℕ) → In a f → test
 unfolding some
 some_in test (b ∷ f) a (here q) e = or_left (test b) (some test f) (rw (← q) e)
 some_in test (b ∷ f) a (there u) e = or_right (test b) (some test f) (some_in test f a u e)
+some_in test [] a x'' e = elim x'' [ ]
 
 in_some : (test : ℕ → Bool) (f : List ℕ) → some test f ≡ true → (a : ℕ) × In a f × (test a ≡ true)
 unfolding some
@@ -34,6 +35,7 @@ pub every_in : (test : ℕ → Bool) (l : List ℕ) → every test l ≡ true �
 unfolding every
 every_in test (b ∷ l) e a (here q) = rw q (and_left (test b) (every test l) e)
 every_in test (b ∷ l) e a (there u) = every_in test l (and_right (test b) (every test l) e) a u
+every_in test [] e a x'' = elim x'' [ ]
 
 pub in_every : (test : ℕ → Bool) (l : List ℕ) → ((a : ℕ) → In a l → test a ≡ true) → every test l ≡ true
 unfolding every

@@ -31,6 +31,7 @@ unfolding taylor
 taylor_beyond c [] i h = refl
 taylor_beyond c (a ∷ f) (suc i) h =
     coef-taylor c a f (suc i) ∙ rw (taylor_beyond c f i (omega arith), taylor_beyond c f (suc i) (omega arith)) (omega arith)
+taylor_beyond c (a ∷ f) Prim.Native.Nat.zero h = elim h [ ]
 
 pub value_shifted : (a q : ℕ) (f : List ℕ) (y : ℕ) → value (shifted a q f) y ≡ value f (a + q * y)
 value_shifted a q f y = value-stretch q (taylor a f) y ∙ value-taylor a f (q * y)

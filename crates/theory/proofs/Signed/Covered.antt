@@ -64,6 +64,7 @@ module _ (p limit : ℕ) (z : ℤ) where
       or_left (covered_by p limit z c) (covered p limit z L) (rw (← q) own)
   covered-complete (c ∷ L) d (there u) l e =
       or_right (covered_by p limit z c) (covered p limit z L) (covered-complete L d u l e)
+  covered-complete [] d x3 l e = elim x3 [ ]
 
   -- by the entries' indices
   pub covered-at : (L : List SignedClass) (i : ℕ) → i < length L → covered_by p limit z (signed_slot L i) ≡ true → covered p limit z L ≡ true

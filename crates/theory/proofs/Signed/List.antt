@@ -41,20 +41,20 @@ module _ (S : ℕ → Bool) (p n : ℕ) where
   abbrev entry_at : ℕ → SignedClass
   entry_at i = signed_largest S p n (from_lowest (p ^ n) i)
 
-  abbrev testAt : ℕ → Bool
-  testAt i = is_signed_listed S p n (from_lowest (p ^ n) i)
+  abbrev test_at : ℕ → Bool
+  test_at i = is_signed_listed S p n (from_lowest (p ^ n) i)
 
   -- "lists rise by this signed number"
   pub signed-rising : Rising SignedEarlier (signed_list S p n)
   unfolding signed_list signed_largest
-  signed-rising = rising-map SignedEarlier entry_at (indices_rise (p ^ n)) testAt (p ^ n) 0
+  signed-rising = rising-map SignedEarlier entry_at (indices_rise (p ^ n)) test_at (p ^ n) 0
 
   -- no entry is repeated
   pub signed-no-repeat : NoRepeat (signed_list S p n)
   unfolding signed_list signed_largest
   signed-no-repeat =
-      no_repeat_map entry_at (λ i j e. indices_apart (p ^ n) i j (λ k. (e k).residue)) (passing testAt (p ^ n) 0)
-      (passing_no_repeat testAt (p ^ n) 0)
+      no_repeat_map entry_at (λ i j e. indices_apart (p ^ n) i j (λ k. (e k).residue)) (passing test_at (p ^ n) 0)
+      (passing_no_repeat test_at (p ^ n) 0)
 
   -- what is known of a class of the list
   pub record SignedListed (c : SignedClass) : Type 0 where
@@ -65,9 +65,9 @@ module _ (S : ℕ → Bool) (p n : ℕ) where
   pub signed-listed : (c : SignedClass) → In c (signed_list S p n) → SignedListed c
   unfolding signed_list is_signed_listed signed_largest
   signed-listed c u =
-      let (i, v, e) = in_map entry_at (passing testAt (p ^ n) 0) c u in
+      let (i, v, e) = in_map entry_at (passing test_at (p ^ n) 0) c u in
       let z = from_lowest (p ^ n) i in
-      let w = (passing_sound testAt (p ^ n) 0 i v).passes in
+      let w = (passing_sound test_at (p ^ n) 0 i v).passes in
       let a = S (reduce (p ^ n) z) in
       let b = is_centered (p ^ level_of S p n (reduce (p ^ n) z)) z in
       rw e (record { in-set = and_left a b w; its-level = refl; in_range = and_right a b w })
@@ -78,23 +78,23 @@ module _ (S : ℕ → Bool) (p n : ℕ) where
       let z = c.residue in
       let i = index_in (p ^ n) z in
       let back : from_lowest (p ^ n) i ≡ z = index_back (p ^ n) z wide in
-      let passes : testAt i ≡ true =
+      let passes : test_at i ≡ true =
       rw (back, k.its-level) (and_intro (S (reduce (p ^ n) z)) (is_centered (p ^ c.level) z) k.in-set k.in_range) in
       let same : entry_at i ≡ c = rw back (signed_equal refl k.its-level) in
       in-cast (sym same)
-      (map_in entry_at (passing testAt (p ^ n) 0) i
-      (passing_complete testAt (p ^ n) 0 i passes (omega arith) (omega (arith, index-lt (p ^ n) z wide))))
+      (map_in entry_at (passing test_at (p ^ n) 0) i
+      (passing_complete test_at (p ^ n) 0 i passes (omega arith) (omega (arith, index-lt (p ^ n) z wide))))
 
 module _ (S : ℕ → Bool) (p n : ℕ) (hp : 0 < p) where
   hq : (t : ℕ) → 0 < p ^ t
   hq t = pow_pos p hp t
 
   -- `shortest` with residues of least size, in 01's order
-  abbrev pub signedShortest : List SignedClass
-  signedShortest = map (signed p) (shortest S p n)
+  abbrev pub signed_shortest : List SignedClass
+  signed_shortest = map (signed p) (shortest S p n)
 
   -- each class of the list is one of those
-  pub list-shortest : (c : SignedClass) → In c (signed_list S p n) → In c signedShortest
+  pub list-shortest : (c : SignedClass) → In c (signed_list S p n) → In c signed_shortest
   unfolding signed
   list-shortest c u =
       let k = signed-listed S p n c u in
@@ -114,7 +114,7 @@ module _ (S : ℕ → Bool) (p n : ℕ) (hp : 0 < p) where
       in-cast (sym same) (map_in (signed p) (shortest S p n) d w.listed)
 
   -- and conversely
-  pub shortest-list : (c : SignedClass) → In c signedShortest → In c (signed_list S p n)
+  pub shortest-list : (c : SignedClass) → In c signed_shortest → In c (signed_list S p n)
   unfolding signed
   shortest-list c u =
       let (d, v, e) = in_map (signed p) (shortest S p n) c u in
@@ -137,12 +137,12 @@ module _ (S : ℕ → Bool) (p n : ℕ) (hp : 0 < p) where
         in_range = range;
       }) wide)
 
-  pub natural-shortest : naturals p signedShortest ≡ shortest S p n
+  pub natural-shortest : naturals p signed_shortest ≡ shortest S p n
   natural-shortest = all-natural-signed p n hp (shortest S p n) (λ c u. (listed S p n hp c u).is_class)
 
   -- the list is `shortest` with residues of least size, in another order
-  pub signed-permutation : Permutation (signed_list S p n) signedShortest
+  pub signed-permutation : Permutation (signed_list S p n) signed_shortest
   signed-permutation =
-      perm_of_entries signedShortest (signed_list S p n)
-      (no_repeat_unmap (natural p) signedShortest (rw natural-shortest (shortest_no_repeat S p n))) (signed-no-repeat S p n) shortest-list
+      perm_of_entries signed_shortest (signed_list S p n)
+      (no_repeat_unmap (natural p) signed_shortest (rw natural-shortest (shortest_no_repeat S p n))) (signed-no-repeat S p n) shortest-list
       list-shortest
