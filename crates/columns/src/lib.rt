@@ -1,1 +1,2 @@
 // Decimal columns: definitions only.
+#![tactic(auto)]

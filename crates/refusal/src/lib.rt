@@ -1,8 +1,10 @@
 // The refusals: a case for each rule of 01 and 02 in the order in which they are tried, with its place where it has one.
+#![tactic(auto)]
+
 ghost use Rattle.std.specs.Prelude.{◌≡◌};
 ghost use Rattle.refusal.specs.Number.{number_of, place_of};
 
-#[derive(Drop)]
+#[derive(Clone, Copy)]
 pub enum Refusal {
     // 1: the text departs from its form, or a number from its type's range, at this offset
     Form(usize),
