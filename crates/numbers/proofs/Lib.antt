@@ -5,3 +5,4 @@ pub mod Rules
 pub mod Composite
 pub mod Places
 pub mod Totals
+pub mod Range

@@ -1,4 +1,6 @@
 // Total functions on machine integers that several crates need: the least divisor, powers and their sums, residues, the test of p and n.
+#![tactic(auto)]
+
 ghost use Rattle.std.specs.Prelude.{◌≡◌, ◌-◌, ◌^◌, min};
 ghost use Rattle.theory.specs.Prime.{least_divisor};
 ghost use Rattle.theory.specs.ClassList.{member_total};
@@ -84,7 +86,7 @@ pub fn member_total(p: u32, n: u32, levels: &[u8]) -> u64
 }
 
 // What the rules on p and n say: pⁿ, or the refusal.
-#[derive(Drop)]
+#[derive(Clone, Copy)]
 pub enum Modulus {
     Accepted(u64),
     Refused(Refusal),

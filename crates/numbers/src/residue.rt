@@ -1,7 +1,7 @@
 // Residues: an integer modulo m, and the residue of least size.
 ghost use Rattle.std.specs.Prelude.{◌≡◌, ◌-◌, ◌%◌};
-ghost use Rattle.theory.specs.Polynomial.{reduce as reduceOf};
-ghost use Rattle.theory.specs.Centered.{is_centered, centered as centeredOf};
+ghost use Rattle.theory.specs.Polynomial.{reduce as reduce_of};
+ghost use Rattle.theory.specs.Centered.{is_centered, centered as centered_of};
 
 // k modulo m, which is k itself for m = 0.
 fn remainder(k: u64, m: u64) -> u64
@@ -25,7 +25,7 @@ fn complement(k: u64, m: u64) -> u64
 
 // x reduced to 0 … m − 1. A negative x is −(k + 1), where k is !x.
 pub fn reduce(x: i64, m: u64) -> u64
-    ensures { result ≡ reduceOf m x }
+    ensures { result ≡ reduce_of m x }
 {
     if x < 0 {
         complement((!x) as u64, m)
@@ -36,7 +36,7 @@ pub fn reduce(x: i64, m: u64) -> u64
 
 // The number of least size that is congruent to a modulo q, for an a below q: a, or a − q.
 pub fn centered(a: u32, q: u32) -> i64
-    ensures { result ≡ centeredOf q a }
+    ensures { result ≡ centered_of q a }
 {
     if 2 * (a as u64) <= q as u64 {
         return a as i64;
@@ -45,6 +45,7 @@ pub fn centered(a: u32, q: u32) -> i64
 }
 
 // Whether z is in the range of the numbers of least size modulo q: −q < 2z ≤ q.
+#[tactic(auto, using(crate::proofs::Range::below_range, crate::proofs::Range::above_low))]
 pub fn is_centered(z: i32, q: u32) -> bool
     ensures { result ≡ is_centered q z }
 {
