@@ -1,4 +1,6 @@
 // Lent class lists: rule 7, and the next root.
+#![tactic(auto)]
+
 ghost use Rattle.std.specs.Prelude.{◌≡◌};
 ghost use Rattle.numbers.specs.inner.Usable.{Usable};
 ghost use Rattle.classes.specs.Checked.{checked_of, marked_checked_of};

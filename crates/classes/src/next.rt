@@ -1,6 +1,6 @@
 // The next root: the least member of a list of classes at or after a point.
 ghost use Rattle.std.specs.Prelude.{◌≡◌, ◌-◌, ◌≤◌, ◌<◌};
-ghost use Rattle.theory.specs.Range.{least as leastOf};
+ghost use Rattle.theory.specs.Range.{least as least_of};
 ghost use Rattle.theory.specs.ClassList.{members};
 ghost use Rattle.theory.specs.SignedClass.{naturals};
 ghost use Rattle.classes.specs.Rule7.{classes_of};
@@ -11,7 +11,7 @@ ghost use Rattle.classes.specs.inner.Search.{member_from};
 use numbers::Modulus;
 use refusal::Refusal;
 
-#[derive(Drop)]
+#[derive(Clone, Copy)]
 pub enum Next {
     // the least member at or after the point
     Root(u32),
@@ -48,7 +48,7 @@ fn next_member(p: u32, n: u32, m: u64, residues: &[i32], levels: &[u8], point: u
 // The least member from the point on, and pⁿ where there is none.
 fn least_member(p: u32, n: u32, m: u64, residues: &[i32], levels: &[u8], point: u64) -> u64
     requires { UsableList p n residues.now levels.now m × (point ≤ m) }
-    ensures { result ≡ leastOf (members p (naturals p (classes_of residues.now levels.now))) (m - point) point }
+    ensures { result ≡ least_of (members p (naturals p (classes_of residues.now levels.now))) (m - point) point }
 {
     let mut best = m;
     let mut i: usize = 0;

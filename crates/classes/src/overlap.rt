@@ -1,10 +1,10 @@
 // Entries of a list of classes that share members. Of two such one contains the other, so it is the class of its level around the other.
 ghost use Rattle.std.specs.Prelude.{◌≡◌, ◌^◌, ◌≤◌, ◌<◌, length, get_or};
-ghost use Rattle.theory.specs.Polynomial.{reduce as reduceOf};
-ghost use Rattle.theory.specs.Centered.{centered as centeredOf};
+ghost use Rattle.theory.specs.Polynomial.{reduce as reduce_of};
+ghost use Rattle.theory.specs.Centered.{centered as centered_of};
 ghost use Rattle.theory.specs.SignedClass.{signed_class};
 ghost use Rattle.classes.specs.Rule7.{classes_of};
-ghost use Rattle.classes.specs.inner.Search.{RisingTo, first_not_below, index_of, overlap as overlapOf, least_value};
+ghost use Rattle.classes.specs.inner.Search.{RisingTo, first_not_below, index_of, overlap as overlap_of, least_value};
 
 // The first of the first m residues that is not below x, by bisection; m where all are.
 fn first_not_below(residues: &[i32], m: usize, x: i32) -> usize
@@ -45,7 +45,7 @@ fn index_of(residues: &[i32], levels: &[u8], m: usize, a: i32, t: u8) -> usize
 // The residue of least size congruent to z modulo q.
 fn residue_around(z: i32, q: u64) -> i32
     requires { (0 < q) × (q ≤ 4294967295) }
-    ensures { result ≡ centeredOf q (reduceOf q z) }
+    ensures { result ≡ centered_of q (reduce_of q z) }
 {
     let a = numbers::reduce(z as i64, q);
     numbers::centered(a as u32, q as u32) as i32
@@ -55,7 +55,7 @@ fn residue_around(z: i32, q: u64) -> i32
 fn overlap(p: u32, residues: &[i32], levels: &[u8], m: usize, i: usize, q: u64, s: u8) -> usize
     requires { (m ≤ length residues.now) × (m ≤ length levels.now) × RisingTo residues.now m × (i < m) × (q ≡ p ^ s)
         × (0 < q) × (q ≤ 4294967295) }
-    ensures { result ≡ overlapOf p (classes_of residues.now levels.now) m i s }
+    ensures { result ≡ overlap_of p (classes_of residues.now levels.now) m i s }
 {
     let a = residue_around(residues[i], q);
     let found = index_of(residues, levels, m, a, s);
@@ -76,7 +76,7 @@ pub(crate) fn least_overlap(
 ) -> usize
     requires { (m ≤ length residues.now) × (m ≤ length levels.now) × RisingTo residues.now m × (i < m) × (2 ≤ p)
         × (p ^ get_or levels.now i 0 ≤ 4294967295) }
-    ensures { result ≡ least_value (overlapOf p (classes_of residues.now levels.now) m i)
+    ensures { result ≡ least_value (overlap_of p (classes_of residues.now levels.now) m i)
         (get_or levels.now i 0) best }
 {
     let t = levels[i];

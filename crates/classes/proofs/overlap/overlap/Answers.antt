@@ -2,8 +2,8 @@
 use mathlib.Core.Path.{◌≡◌, refl, ap, ◌∙◌}
 use mathlib.Core.List.{List}
 use Prim.Native.Nat.{ℕ}
-use native.Mathlib.Omega.{arith}
 use borrow.Author.Rules.{rules}
+use native.Mathlib.Omega.{arith}
 use lib.IntN.{ℤ, pos}
 use lib.ListN.{get_or}
 use mir.Syntax.{w32}
@@ -19,11 +19,13 @@ use Rattle.numbers.proofs.Words.{narrow_fits}
 use Rattle.classes.specs.Rule7.{classes_of}
 use Rattle.classes.specs.inner.Search.{index_of, around, overlap}
 use Rattle.classes.proofs.Entries.{classes_slot}
-use Rattle.classes.proofs.overlap.overlap.Statement.{statement}
+use Rattle.classes.proofs.overlap.overlap.Lts as lts
+use Rattle.classes.proofs.overlap.overlap.Reads as reads
 use Rattle.classes.proofs.overlap.overlap.Tie as tie
+use Rattle.classes.proofs.overlap.overlap.Goals as goal
 
-module _ (c : tie.After-index-of) where
-  abbrev call : tie.Start
+module _ (c : lts.After-index_of tie.the-claims reads.Pre reads.Post) where
+  abbrev call : lts.Start tie.the-claims reads.Pre reads.Post
   call = c.before.before.before.before
 
   abbrev L : List SignedClass
@@ -37,42 +39,38 @@ module _ (c : tie.After-index-of) where
 
   entry : signed_slot L call.args.i ≡ signed_class z (get_or call.args.levels.now call.args.i 0)
   entry =
-      classes_slot call.args.residues.now call.args.levels.now call.args.i (omega (arith, call.pre))
-      (omega (arith, call.pre))
+      classes_slot call.args.residues.now call.args.levels.now call.args.i (omega (arith, call.requires))
+      (omega (arith, call.requires))
 
   -- the residue around entry i, and the class
-  residue-is : c.before.residue-around.result ≡ centered q (reduce q z)
+  residue-is : c.residue_around-a.result ≡ centered q (reduce q z)
   residue-is =
-      c.before.residue-around.ensures
-      ∙ ap (λ (x : ℤ). centered q (reduce q x)) (to_z-of_z w32 z (record { sfits = c.before.before.residue-around-arg.given }))
+      c.residue_around-a.ensures
+      ∙ ap (λ (x : ℤ). centered q (reduce q x)) (to_z-of_z w32 z (search rules))
 
-  residue_fits : SFits w32 c.before.residue-around.result
+  residue_fits : SFits w32 c.residue_around-a.result
   residue_fits =
       rw residue-is
-      (narrow_fits q (centered q (reduce q z)) call.pre.6 (centered-range q (reduce q z) (reduce-lt q call.pre.5 z)))
+      (narrow_fits q (centered q (reduce q z)) call.requires.6 (centered-range q (reduce q z) (reduce-lt q call.requires.5 z)))
 
-  around-is : signed_class (to_z w32 (of_z w32 c.before.residue-around.result)) call.args.s
+  around-is : signed_class (to_z w32 (of_z w32 c.residue_around-a.result)) call.args.s
       ≡ around call.args.p (signed_slot L call.args.i) call.args.s
   unfolding around
   around-is =
       rw entry
       (signed_equal
-      (to_z-of_z w32 c.before.residue-around.result residue_fits
+      (to_z-of_z w32 c.residue_around-a.result residue_fits
       ∙ residue-is
-      ∙ ap (λ (x : ℕ). centered x (reduce x z)) call.pre.4) refl)
+      ∙ ap (λ (x : ℕ). centered x (reduce x z)) call.requires.4) refl)
 
-  index_is : c.index-of.result
+  index_is : c.index_of-found.result
       ≡ index_of L call.args.m (around call.args.p (signed_slot L call.args.i) call.args.s)
-  index_is = c.index-of.ensures ∙ ap (index_of L call.args.m) around-is
+  index_is = c.index_of-found.ensures ∙ ap (index_of L call.args.m) around-is
 
-returns : tie.Need-returns
+pub returns-then-found-i : goal.returns-then-found-i
 unfolding overlap
-returns c = omega (arith, index_is c.before, c.if1.true)
+returns-then-found-i c = omega (arith, index_is c.before.before, c.if-found-i.true)
 
-returns-2 : tie.Need-returns-2
+pub returns : goal.returns
 unfolding overlap
-returns-2 c = omega (arith, index_is c.before, c.if1.false)
-
-pub overlap-spec : {M : Type 1} → statement M
-overlap-spec =
-    tie.close (tie.spec (λ c. search rules) (λ c. search rules) (λ c κs. search rules) (λ c κs. search rules) returns returns-2)
+returns c = omega (arith, index_is c.before.before, c.if-found-i.false)
