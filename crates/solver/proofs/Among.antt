@@ -49,20 +49,20 @@ module _ {w : List ℕ} {p n m : ℕ} (U : Usable p n m) (short : length w ≤ 6
   L = classes_of residues levels
 
   -- the classes found, and with their residues of least size
-  abbrev pub foundClasses : List Class
-  foundClasses = started S p n (naturals p L)
+  abbrev pub found_classes : List Class
+  found_classes = started S p n (naturals p L)
 
-  abbrev pub signedClasses : List SignedClass
-  signedClasses = map (signed p) foundClasses
+  abbrev pub signed_classes : List SignedClass
+  signed_classes = map (signed p) found_classes
 
   apart : Apart p n (naturals p L)
   apart = faultless-apart p n L hp given.faultless
 
-  found-apart : Apart p n foundClasses
+  found-apart : Apart p n found_classes
   found-apart = started-apart S p n two (naturals p L) apart
 
   -- at most 64 are of the zeros' own list, and at most 64 given
-  pub found-few : length foundClasses ≤ 128
+  pub found-few : length found_classes ≤ 128
   found-few =
       omega (
         arith,
@@ -72,36 +72,36 @@ module _ {w : List ℕ} {p n m : ℕ} (U : Usable p n m) (short : length w ≤ 6
         given.few,
       )
 
-  found-classes : (c : SignedClass) → In c signedClasses → IsSignedClass p n c
+  found-classes : (c : SignedClass) → In c signed_classes → IsSignedClass p n c
   found-classes c u =
-      let (d, v, e) = in_map (signed p) foundClasses c u in rw e (signed-class p n hp d (found-apart.classes d v))
+      let (d, v, e) = in_map (signed p) found_classes c u in rw e (signed-class p n hp d (found-apart.classes d v))
 
   -- as numbers
-  found-codes : codes_of p foundClasses ≡ map code signedClasses
-  found-codes = sym (map-map code (signed p) foundClasses)
+  found-codes : codes_of p found_classes ≡ map code signed_classes
+  found-codes = sym (map-map code (signed p) found_classes)
 
-  pub found-fit : ResiduesFit (codes_of p foundClasses)
-  found-fit = rw found-codes (residues-fit U signedClasses found-classes)
+  pub found-fit : ResiduesFit (codes_of p found_classes)
+  found-fit = rw found-codes (residues-fit U signed_classes found-classes)
 
-  pub found_back : map class_of (codes_of p foundClasses) ≡ signedClasses
-  found_back = ap (map class_of) found-codes ∙ classes-back U signedClasses found-classes
+  pub found_back : map class_of (codes_of p found_classes) ≡ signed_classes
+  found_back = ap (map class_of) found-codes ∙ classes-back U signed_classes found-classes
 
-  back : naturals p signedClasses ≡ foundClasses
-  back = all-natural-signed p n hp foundClasses found-apart.classes
+  back : naturals p signed_classes ≡ found_classes
+  back = all-natural-signed p n hp found_classes found-apart.classes
 
-  pub found-stay : FewStay p n signedClasses
-  found-stay = record { stays = few-stay p n hp signedClasses (rw back found-apart) }
+  pub found-stay : FewStay p n signed_classes
+  found-stay = record { stays = few-stay p n hp signed_classes (rw back found-apart) }
 
-  pub found-filled : AllFilledDown p n signedClasses
-  found-filled = record { filled = filled-down p n hp signedClasses (rw back found-apart) }
+  pub found-filled : AllFilledDown p n signed_classes
+  found-filled = record { filled = filled-down p n hp signed_classes (rw back found-apart) }
 
   -- joined, they are the list
-  pub found-joined : Permutation (joined p n signedClasses) (classes_among w p n (classes_of residues levels))
+  pub found-joined : Permutation (joined p n signed_classes) (classes_among w p n (classes_of residues levels))
   found-joined =
-      let same : signed_list (members p (naturals p signedClasses)) p n ≡ classes_among w p n L =
+      let same : signed_list (members p (naturals p signed_classes)) p n ≡ classes_among w p n L =
       ap (λ (N : List Class). signed_list (members p N) p n) back
-      ∙ signed_agree (members p foundClasses) (zeros_among w p n L) p n hp (started-members S p n two (naturals p L) apart) in
-      rw same at (joined-permutation p n hp signedClasses found-classes (rw back found-apart))
+      ∙ signed_agree (members p found_classes) (zeros_among w p n L) p n hp (started-members S p n two (naturals p L) apart) in
+      rw same at (joined-permutation p n hp signed_classes found-classes (rw back found-apart))
 
   -- which has at most as many
   pub among-few : length (classes_among w p n (classes_of residues levels)) ≤ 128
@@ -109,7 +109,7 @@ module _ {w : List ℕ} {p n m : ℕ} (U : Usable p n m) (short : length w ≤ 6
       omega (
         arith,
         perm_length found-joined,
-        joined_length p n hp signedClasses found-classes (rw back found-apart),
-        length-map foundClasses (signed p),
+        joined_length p n hp signed_classes found-classes (rw back found-apart),
+        length-map found_classes (signed p),
         found-few,
       )

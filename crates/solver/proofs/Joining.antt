@@ -20,14 +20,14 @@ module _ (p n : ℕ) (codes : List ℕ) where
   L = map class_of codes
 
   -- the numbers of the joined classes of these
-  abbrev joinedOf : List SignedClass → List ℕ
-  joinedOf l = map code (map (joined_class p n L) (keep (is_first p n L) l))
+  abbrev joined_of : List SignedClass → List ℕ
+  joined_of l = map code (map (joined_class p n L) (keep (is_first p n L) l))
 
   -- of the first i classes joined, there are k, and they are the first entries of out
   pub record Joining (out₀ : List ℕ) (i k : ℕ) (out : List ℕ) : Type 0 where
     pub long : length out ≡ length out₀
     pub number : k ≤ i
-    pub entries : take k out ≡ joinedOf (map class_of (take i codes))
+    pub entries : take k out ≡ joined_of (map class_of (take i codes))
 
   pub joining-none : (out : List ℕ) → Joining out 0 0 out
   unfolding keep
@@ -51,7 +51,7 @@ module _ (p n : ℕ) (codes : List ℕ) where
           entries =
               take_set_next out k (x / 256 * 256 + joined_level p n L (class_of x).residue) room
               ∙ ap₂ (λ (ys : List ℕ) (y : ℕ). ys ++ (y ∷ [])) j.entries (code_level x (joined_level p n L (class_of x).residue))
-              ∙ sym (ap joinedOf next
+              ∙ sym (ap joined_of next
               ∙ ap (λ (ys : List SignedClass). map code (map (joined_class p n L) ys)) (keep-next-on (is_first p n L) l (class_of x) e)
               ∙ ap (map code) (map-append (joined_class p n L) (keep (is_first p n L) l) (class_of x ∷ []))
               ∙ map-append code (map (joined_class p n L) (keep (is_first p n L) l)) (joined_class p n L (class_of x) ∷ []));
@@ -64,11 +64,11 @@ module _ (p n : ℕ) (codes : List ℕ) where
           number = omega (arith, j.number);
           entries =
               j.entries
-              ∙ sym (ap joinedOf next
+              ∙ sym (ap joined_of next
               ∙ ap (λ (ys : List SignedClass). map code (map (joined_class p n L) ys))
               (keep-next-off (is_first p n L) (map class_of (take i codes)) (class_of x) e));
         }
 
   pub joining-all : {out₀ out : List ℕ} {i k : ℕ} → Joining out₀ i k out → i ≡ length codes → take k out ≡ map code (joined p n L)
   unfolding joined
-  joining-all j e = j.entries ∙ ap (λ (l : List ℕ). joinedOf (map class_of l)) (ap (λ (m : ℕ). take m codes) e ∙ take-length codes)
+  joining-all j e = j.entries ∙ ap (λ (l : List ℕ). joined_of (map class_of l)) (ap (λ (m : ℕ). take m codes) e ∙ take-length codes)

@@ -29,10 +29,6 @@ mod RaiseRules
 pub mod RaiseAnswers
 pub mod Examples
 pub mod Testing
-pub mod Walking
-pub mod Types
-pub mod Passed
-pub mod Callers
 pub mod ManyPoints
 pub mod Answered
 pub mod Few

@@ -1,4 +1,6 @@
 // The solver: the root classes of a polynomial modulo pⁿ, the test of one residue or of many, and the root counts at every precision.
+#![tactic(auto)]
+
 ghost use Rattle.std.specs.Prelude.{◌≡◌, length};
 ghost use Rattle.solver.specs.Solve.{lists as lists_of, solved_of, lists_after, tested_of};
 ghost use Rattle.solver.specs.Points.{tested_all_of, queries_after};
@@ -41,7 +43,7 @@ fn check_polynomial(coefficients: &[i64], p: u32, n: u32) -> Modulus
     numbers::check_modulus(p, n)
 }
 
-#[derive(Drop)]
+#[derive(Clone, Copy)]
 pub enum Solved {
     // the number of classes, which are the first entries of the lists, the number of roots, and the number of live classes (02, 2.8)
     Found {
@@ -78,7 +80,7 @@ pub fn solve(
     }
 }
 
-#[derive(Drop)]
+#[derive(Clone, Copy)]
 pub enum Tested {
     Yes,
     No,
@@ -101,13 +103,13 @@ pub fn is_root(coefficients: &[i64], p: u32, n: u32, point: u32) -> Tested
 
 // A point and the place for its answer (02, 2.5): 1 for a root, 0 for no root, 8 for a point that is not below pⁿ.
 #[repr(C)]
-#[derive(Drop)]
+#[derive(Clone, Copy)]
 pub struct Query {
     pub point: u32,
     pub answer: u32,
 }
 
-#[derive(Drop)]
+#[derive(Clone, Copy)]
 pub enum TestedAll {
     Answered,
     Refused(Refusal),
@@ -129,7 +131,7 @@ pub fn test_points(coefficients: &[i64], p: u32, n: u32, queries: &mut [Query]) 
     points::verdict(polynomial)
 }
 
-#[derive(Drop)]
+#[derive(Clone, Copy)]
 pub enum Tabulated {
     // the row is written
     Filled,

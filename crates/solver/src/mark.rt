@@ -1,6 +1,6 @@
 // Marks from the derivative.
 ghost use Rattle.std.specs.Prelude.{◌≡◌, map, ◌++◌, ◌-◌, ◌/◌, ◌≤◌, ◌<◌, length, drop};
-ghost use Rattle.theory.specs.Polynomial.{divided, derivative as derivativeOf};
+ghost use Rattle.theory.specs.Polynomial.{divided, derivative as derivative_of};
 ghost use Rattle.theory.specs.Degree.{primitive};
 ghost use Rattle.solver.specs.inner.Table.{Residues};
 ghost use Rattle.solver.specs.inner.Marks.{mark_at, mark_of_digits, mark_from};
@@ -11,7 +11,7 @@ use crate::{code, polynomial, valuation};
 // The derivative of f/q modulo p, one coefficient fewer.
 fn derivative(f: &[u32], q: u64, p: u64, d: &mut [u32])
     requires { (length f.now ≤ 65) × (length d.old ≡ length f.now - 1) × (0 < q) × (0 < p) × (p ≤ 65535) }
-    ensures { Residues p d.new (derivativeOf (divided q f.now)) }
+    ensures { Residues p d.new (derivative_of (divided q f.now)) }
 {
     let mut i: usize = 0;
     while i < d.len() {
@@ -67,7 +67,7 @@ pub(crate) fn write_marks(f: &[u32], p: u64, codes: &[u64], marks: &mut [u8])
     requires { (0 < length f.now) × (length f.now ≤ 65) × (2 ≤ p) × (p ≤ 65535) × (length codes.now ≤ length marks.old)
         × ResiduesFit codes.now }
     ensures { marks.new
-        ≡ map (mark_from p (derivativeOf (primitive p f.now))) (map class_of codes.now)
+        ≡ map (mark_from p (derivative_of (primitive p f.now))) (map class_of codes.now)
         ++ drop (length codes.now) marks.old }
 {
     let mut d = [0u32; 65];

@@ -23,7 +23,7 @@ pub(crate) fn test_reduced(g: &[u32], m: u64, point: u32) -> Tested
 
 // A polynomial made ready: what the rules say of it, p and n, and where they pass, pⁿ and the coefficients modulo pⁿ, which are the first
 // `count` of the row; where they refuse, the modulus 1 and no coefficient.
-#[derive(Drop)]
+#[derive(Clone, Copy)]
 pub(crate) struct Prepared {
     verdict: TestedAll,
     modulus: u64,

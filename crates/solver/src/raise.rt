@@ -14,7 +14,7 @@ use crate::{join, lists, reduce, sort, start};
 use numbers::Modulus;
 use refusal::Refusal;
 
-#[derive(Drop)]
+#[derive(Clone, Copy)]
 pub enum Raised {
     // the number of classes, which are the first entries of the lists, and the number of roots
     Found { classes: usize, roots: u64 },
@@ -68,7 +68,7 @@ pub fn raise_precision(
 }
 
 // The lengths of the lists to be filled.
-#[derive(Drop)]
+#[derive(Clone, Copy)]
 struct LentLengths {
     residues: usize,
     levels: usize,

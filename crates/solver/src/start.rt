@@ -1,6 +1,6 @@
 // The recursion over the digits started at each of given classes: what lies above them is not scanned again.
 ghost use Rattle.std.specs.Prelude.{◌≡◌, ◌+◌, ◌≤◌, ◌<◌, length};
-ghost use Rattle.theory.specs.Polynomial.{zeros as zerosOf};
+ghost use Rattle.theory.specs.Polynomial.{zeros as zeros_of};
 ghost use Rattle.theory.specs.SignedClass.{signed_class, IsSignedClass, natural, naturals};
 ghost use Rattle.theory.specs.inner.Started.{tree_below, started};
 ghost use Rattle.classes.specs.Rule7.{classes_of};
@@ -39,7 +39,7 @@ fn shifted_length(c: usize, e: u64, t: u64) -> usize
 fn start(f: &[u32], over: PrimePower, residue: i32, level: u8, out: &mut [u64], k: usize) -> usize
     requires { IsPrimePower over × (0 < length f.now) × (length f.now ≤ 65)
         × IsSignedClass over.p over.exponent (signed_class residue level) × (k + 64 ≤ length out.old) }
-    ensures { Appended (codes_of over.p (tree_below (zerosOf f.now over.p over.exponent) over.p over.exponent
+    ensures { Appended (codes_of over.p (tree_below (zeros_of f.now over.p over.exponent) over.p over.exponent
         (natural over.p (signed_class residue level)))) k result out.old out.new }
 {
     let node = node_at(over, residue, level);
@@ -61,9 +61,9 @@ pub(crate) fn start_all(
 ) -> usize
     requires { IsPrimePower over × (0 < length f.now) × (length f.now ≤ 65) × (length residues.now ≡ length levels.now)
         × Faultless over.p over.exponent (classes_of residues.now levels.now)
-        × (length (started (zerosOf f.now over.p over.exponent) over.p over.exponent
+        × (length (started (zeros_of f.now over.p over.exponent) over.p over.exponent
         (naturals over.p (classes_of residues.now levels.now))) + 64 ≤ length out.old) }
-    ensures { Appended (codes_of over.p (started (zerosOf f.now over.p over.exponent) over.p over.exponent
+    ensures { Appended (codes_of over.p (started (zeros_of f.now over.p over.exponent) over.p over.exponent
         (naturals over.p (classes_of residues.now levels.now)))) 0 result out.old out.new }
 {
     let mut k: usize = 0;

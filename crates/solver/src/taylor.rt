@@ -1,6 +1,6 @@
 // The Taylor shift h(c + q·y) modulo m, its first coefficients: where m divides q^k, those from index k on vanish.
 ghost use Rattle.std.specs.Prelude.{◌≡◌, ◌∷◌, ℕ, ◌+◌, ◌*◌, ◌%◌, ◌^◌, ◌≤◌, ◌<◌, length, get_or};
-ghost use Rattle.theory.specs.Taylor.{taylor as taylorOf, shifted as shiftedOf};
+ghost use Rattle.theory.specs.Taylor.{taylor as taylor_of, shifted as shifted_of};
 ghost use Rattle.theory.specs.inner.Polynomial.{coef};
 ghost use Rattle.theory.specs.inner.Overwritten.{Overwritten};
 ghost use Rattle.solver.specs.inner.Table.{Residues};
@@ -22,7 +22,7 @@ fn horner_step(g: &mut [u32], top: usize, a: u64, c: u64, m: u64)
 // h(c + y) into g, which holds zeros. With k coefficients of h done there are k coefficients, so the next step makes at most k + 1.
 fn taylor(h: &[u32], c: u64, m: u64, g: &mut [u32])
     requires { (0 < length g.old) × (0 < m) × (m ≤ 4294967295) × (c < 4294967296) × ((i : ℕ) → get_or g.old i 0 ≡ 0) }
-    ensures { Residues m g.new (taylorOf c h.now) }
+    ensures { Residues m g.new (taylor_of c h.now) }
 {
     let mut j = h.len();
     while 0 < j {
@@ -50,7 +50,7 @@ fn stretch(g: &mut [u32], q: u64, m: u64)
 pub(crate) fn shift(h: &[u32], c: u64, q: u64, m: u64, g: &mut [u32])
     requires { (0 < length g.old) × (0 < m) × (m ≤ 4294967295) × (c < 4294967296) × (q < 4294967296)
         × ((i : ℕ) → get_or g.old i 0 ≡ 0) }
-    ensures { Residues m g.new (shiftedOf c q h.now) }
+    ensures { Residues m g.new (shifted_of c q h.now) }
 {
     taylor(h, c, m, g);
     stretch(g, q, m);

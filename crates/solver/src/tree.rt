@@ -1,7 +1,7 @@
 // The recursion over the digits: settling a class calls the scan of its digits, which settles each child class.
 ghost use Rattle.std.specs.Prelude.{◌≡◌, Bool, true, false, ℕ, ◌+◌, ◌^◌, ◌≤◌, ◌<◌, length, take};
 ghost use Rattle.theory.specs.Range.{all_below};
-ghost use Rattle.theory.specs.Polynomial.{zeros as zerosOf};
+ghost use Rattle.theory.specs.Polynomial.{zeros as zeros_of};
 ghost use Rattle.theory.specs.Degree.{least_valuation, all_zero, primitive};
 ghost use Rattle.theory.specs.Live.{live_of};
 ghost use Rattle.solver.specs.inner.Table.{Below, degree_modulo};
@@ -10,7 +10,7 @@ ghost use Rattle.solver.specs.inner.Recursion.{IsPrimePower, lowered, IsNode, At
 use crate::{code, digits, polynomial, taylor, valuation};
 
 // The modulus of a polynomial: a power of a prime.
-#[derive(Drop)]
+#[derive(Clone, Copy)]
 pub(crate) struct PrimePower {
     pub(crate) p: u64,
     pub(crate) exponent: u64,
@@ -19,7 +19,7 @@ pub(crate) struct PrimePower {
 }
 
 // A class residue/level in the tree of digits.
-#[derive(Drop)]
+#[derive(Clone, Copy)]
 pub(crate) struct Node {
     pub(crate) residue: u64,
     // p^level
@@ -29,7 +29,7 @@ pub(crate) struct Node {
     pub(crate) left: u64,
 }
 
-#[derive(Drop)]
+#[derive(Clone, Copy)]
 pub(crate) struct Settled {
     // the number of classes now
     pub(crate) k: usize,
@@ -95,7 +95,7 @@ pub(crate) fn settle(
     k: usize,
 ) -> Settled
     requires { (len ≤ 65) × AtNode (take len g) over node × (k + most_classes over.p (take len g) ≤ length out.old) }
-    ensures classes { Done (zerosOf (take len g) over.p over.exponent) over.p node k result
+    ensures classes { Done (zeros_of (take len g) over.p over.exponent) over.p node k result
         out.old out.new }
     ensures live { result.live ≡ live_of (take len g) over.p over.exponent node.left }
 {
@@ -121,7 +121,7 @@ pub(crate) fn settle(
 #[cycle(scan_settle)]
 fn scan(h: &[u32], over: PrimePower, node: Node, out: &mut [u64], k: usize) -> Settled
     requires { Primitive h.now over node × (k + degree_modulo over.p h.now ≤ length out.old) }
-    ensures classes { Done (zerosOf h.now over.p over.exponent) over.p node k result
+    ensures classes { Done (zeros_of h.now over.p over.exponent) over.p node k result
         out.old out.new }
     ensures live { result.live ≡ live_of h.now over.p over.exponent node.left }
 {

@@ -1,6 +1,6 @@
 // Valuations: how many times p divides a number.
 ghost use Rattle.std.specs.Prelude.{◌≡◌, false, ◌^◌, ◌≤◌, ◌<◌};
-ghost use Rattle.theory.specs.Degree.{valuation as valuationOf, least_valuation, all_zero};
+ghost use Rattle.theory.specs.Degree.{valuation as valuation_of, least_valuation, all_zero};
 ghost use Rattle.solver.specs.inner.Table.{lower_of};
 
 use crate::polynomial;
@@ -8,7 +8,7 @@ use crate::polynomial;
 // The valuation for p = 2 is the number of trailing zero bits.
 fn valuation_two(x: u64) -> u64
     requires { 0 < x }
-    ensures { result ≡ valuationOf 2 x }
+    ensures { result ≡ valuation_of 2 x }
 {
     u64::trailing_zeros(x) as u64
 }
@@ -16,7 +16,7 @@ fn valuation_two(x: u64) -> u64
 // For any p: repeated division.
 fn valuation_any(x: u64, p: u64) -> u64
     requires { (0 < x) × (2 ≤ p) }
-    ensures { result ≡ valuationOf p x }
+    ensures { result ≡ valuation_of p x }
 {
     let mut y = x;
     let mut v: u64 = 0;
@@ -29,7 +29,7 @@ fn valuation_any(x: u64, p: u64) -> u64
 
 fn valuation(x: u64, p: u64) -> u64
     requires { (0 < x) × (2 ≤ p) }
-    ensures { result ≡ valuationOf p x }
+    ensures { result ≡ valuation_of p x }
 {
     if p == 2 {
         return valuation_two(x);

@@ -2,7 +2,7 @@
 // entry i is for p^(i + 1). The numbers counted are those below pⁿ, whatever the power, so that a class adds the same to each entry that
 // it adds to.
 ghost use Rattle.std.specs.Prelude.{ℕ, suc, ◌≤◌, ◌<◌, length, take};
-ghost use Rattle.theory.specs.Polynomial.{zeros as zerosOf};
+ghost use Rattle.theory.specs.Polynomial.{zeros as zeros_of};
 ghost use Rattle.theory.specs.Shortest.{count as count_of};
 ghost use Rattle.theory.specs.inner.Overwritten.{Overwritten};
 ghost use Rattle.numbers.specs.inner.Usable.{Usable};
@@ -85,7 +85,7 @@ fn write_counts(zeros: &[u64], p: u32, n: u32, m: u64, counts: &mut [u64])
 // c of the row.
 pub(crate) fn count_reduced(row: [u32; 65], c: usize, p: u32, n: u32, m: u64, counts: &mut [u64])
     requires { Usable p n m × (c ≤ 65) × Below m (take c row) × (n < length counts.old) }
-    ensures { Overwritten (λ (j : ℕ). count_of (zerosOf (take c row) p j) p j) 0 (suc n)
+    ensures { Overwritten (λ (j : ℕ). count_of (zeros_of (take c row) p j) p j) 0 (suc n)
         counts.old counts.new }
 {
     let over = PrimePower {

@@ -1,5 +1,5 @@
 -- Raising a list: what its rules leave, and what it answers and writes for coefficients modulo pⁿ.
-use Rattle.std.specs.Prelude.{◌≡◌, Bool, ◌&&◌, List, [], ◌∷◌, map, ℕ, ◌-◌, ◌^◌, ◌≤◌, ℤ, length}
+use Rattle.std.specs.Prelude.{◌≡◌, Bool, ◌&&◌, List, [], ◌∷◌, map, ℕ, ◌^◌, ◌≤◌, ℤ, length}
 use Rattle.theory.specs.Polynomial.{zeros}
 use Rattle.theory.specs.ClassList.{members}
 use Rattle.theory.specs.SignedClass.{SignedClass, natural, naturals}

@@ -1,0 +1,15 @@
+-- `solver::differences::plus` meets its contract.
+use mathlib.Core.Path.{sym}
+use Prim.Native.Nat.{◌+◌, ◌-◌}
+use native.Mathlib.Nat.{mod-eq_of_lt}
+use native.Mathlib.Omega.{arith}
+use Rattle.theory.proofs.Numbers.Congruence.{residue_is}
+use Rattle.solver.proofs.differences.plus.Goals as goal
+
+pub returns-then-s-p : goal.returns-then-s-p
+returns-then-s-p c = sym (mod-eq_of_lt c.if-s-p.true)
+
+pub returns-else-s-p : goal.returns-else-s-p
+returns-else-s-p c =
+    let a = c.args in
+    residue_is a.p (a.a + a.b - a.p) 1 (a.a + a.b) (omega arith) (omega arith)
