@@ -1,10 +1,12 @@
-// Eight points in one call, by value. A Rattle function that lends a row of records needs a walk of its own; its callers need none.
+// Eight points in one call, by value.
+#![tactic(auto)]
+
 ghost use Rattle.std.specs.Prelude.{◌≡◌};
 ghost use Rattle.solver.specs.Points.{tested_all_of, queries_after};
 
 use solver::{Query, TestedAll};
 
-#[derive(Drop)]
+#[derive(Clone, Copy)]
 pub struct Answers {
     pub tested: TestedAll,
     pub queries: [Query; 8],
