@@ -1,4 +1,6 @@
 // The root map of a class list, and its count.
+#![tactic(auto)]
+
 ghost use Rattle.std.specs.Prelude.{◌≡◌, length};
 ghost use Rattle.rootmap.specs.Map.{mapped_of, map_filled, counted_of};
 ghost use Rattle.rootmap.specs.inner.Size.{sized_of};
@@ -10,13 +12,13 @@ mod bits;
 mod count;
 mod fill;
 
-#[derive(Drop)]
+#[derive(Clone, Copy)]
 pub enum Mapped {
     Filled,
     Refused(Refusal),
 }
 
-#[derive(Drop)]
+#[derive(Clone, Copy)]
 pub enum Counted {
     // the number of ones
     Ones(u64),
