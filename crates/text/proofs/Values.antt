@@ -1,8 +1,7 @@
 -- The values of a column from what is kept of it in 64 bits.
 use mathlib.Core.Path.{◌≡◌, refl, sym, ap, ◌∙◌}
 use mathlib.Core.Bool.{Bool, true, false}
-use mathlib.Core.List.{List, [], ◌∷◌}
-use mathlib.Core.Logic.{inl, inr}
+use mathlib.Core.List.{List}
 use mathlib.Core.Option.{none, some}
 use Prim.Native.Nat.{ℕ, zero, suc, ◌+◌, ◌≤◌, ◌<◌}
 use native.Mathlib.Omega.{arith}
@@ -13,9 +12,6 @@ use lib.ListN.{length, take, drop}
 use mir.Syntax.{w64}
 use mir.Val.{SFits, to_z, of_z}
 use mir.ValLaws.{to_z-of_z}
-use types.Run.{OneOf}
-use denote.Enum.Declared
-use Rattle.text.specs.contracts.column.Part.{the_type}
 use Rattle.text.specs.declared.column.Part.{Part}
 use Rattle.text.specs.declared.column.Part.TheVariants.{Blanks, Minus, Number, Fault}
 use Rattle.text.specs.Reading.{scan, unsigned_of, signed_of}
@@ -46,12 +42,10 @@ capped_means Fault m x e = let z : ◌≡◌ {A = ℕ} 0 1 = cc in absurd (omega
 
 -- the variants that are no number
 abbrev pub Others : Part → Type 0
-Others p = OneOf (0 ∷ 1 ∷ 3 ∷ []) (Declared.tag_of the_type p)
+Others p = (m : Bool) (x : ℕ) → p ≡ Number m x → ⊥
 
 number_no_other : (m : Bool) (x : ℕ) → Others (Number m x) → ⊥
-number_no_other m x (inl e) = omega arith
-number_no_other m x (inr (inl e)) = omega arith
-number_no_other m x (inr (inr e)) = omega arith
+number_no_other m x o = o m x refl
 
 others_large : (m : Bool) (x : ℕ) → Others (capped (Number m x)) → 9223372036854775808 < x
 others_large m x o = go (leb x 9223372036854775808) refl

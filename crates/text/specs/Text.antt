@@ -5,9 +5,7 @@ use Rattle.columns.specs.Column.{line_end}
 use Rattle.text.specs.declared.column.Part.{Part}
 use Rattle.text.specs.declared.column.Part.TheVariants.{Fault}
 use Rattle.text.specs.declared.Unsigned.{Unsigned}
-use Rattle.text.specs.declared.Unsigned.TheVariants as Unsigned
 use Rattle.text.specs.declared.Signed.{Signed}
-use Rattle.text.specs.declared.Signed.TheVariants as Signed
 use Rattle.text.specs.declared.LineEnd.{LineEnd}
 use Rattle.text.specs.declared.LineEnd.TheVariants.{Found, Missing}
 use Rattle.text.specs.Reading.{scan, unsigned_of, signed_of}

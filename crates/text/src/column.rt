@@ -1,11 +1,11 @@
 // One column: what its bytes, read from left to right, make.
 ghost use Rattle.std.specs.Prelude.{◌≡◌, ◌≤◌};
 ghost use Rattle.text.specs.Text.{column_at};
-ghost use Rattle.text.specs.Reading.{step as step_of, after_blank, after_minus, after_digit, scan as scanOf};
+ghost use Rattle.text.specs.Reading.{step as step_of, after_blank, after_minus, after_digit, scan as scan_of};
 ghost use Rattle.text.specs.inner.Capped.{capped};
 
 // What the bytes so far are.
-#[derive(Drop)]
+#[derive(Clone, Copy)]
 pub(crate) enum Part {
     // blanks only
     Blanks,
@@ -96,7 +96,7 @@ fn step(part: Part, byte: u8) -> Part
 
 // A whole column.
 fn scan(column: &[u8]) -> Part
-    ensures { result ≡ capped (scanOf column.now) }
+    ensures { result ≡ capped (scan_of column.now) }
 {
     let mut part = Part::Blanks;
     let mut i: usize = 0;

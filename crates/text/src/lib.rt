@@ -1,4 +1,6 @@
 // The text reader: columns read by a cursor, and the problem reader.
+#![tactic(auto)]
+
 ghost use Rattle.std.specs.Prelude.{◌≡◌, ◌+◌, ◌*◌, ◌≤◌, ◌<◌, pos, neg_ℤ};
 ghost use Rattle.text.specs.Text.{unsigned_at, signed_at, line_end_at};
 ghost use Rattle.refusal.specs.Rules.{tried};
@@ -10,12 +12,12 @@ use refusal::Refusal;
 mod column;
 
 // A place in a text. Each method reads what stands there and hands back the moved cursor.
-#[derive(Drop)]
+#[derive(Clone, Copy)]
 pub struct Cursor {
     pub at: usize,
 }
 
-#[derive(Drop)]
+#[derive(Clone, Copy)]
 pub enum Unsigned {
     // the number, and the place after its column
     Value(u32, Cursor),
@@ -23,7 +25,7 @@ pub enum Unsigned {
     Fault,
 }
 
-#[derive(Drop)]
+#[derive(Clone, Copy)]
 pub enum Signed {
     // the number, and the place after its column
     Value(i64, Cursor),
@@ -31,7 +33,7 @@ pub enum Signed {
     Fault,
 }
 
-#[derive(Drop)]
+#[derive(Clone, Copy)]
 pub enum LineEnd {
     // the place after it
     Found(Cursor),
@@ -96,7 +98,7 @@ impl Cursor {
     }
 }
 
-#[derive(Drop)]
+#[derive(Clone, Copy)]
 pub enum Read {
     // p, n, the number of coefficients, and the place after the last line
     Given {
@@ -108,7 +110,7 @@ pub enum Read {
     Refused(Refusal),
 }
 
-#[derive(Drop)]
+#[derive(Clone, Copy)]
 pub struct Problem {
     pub read: Read,
     // zero after the last that was read, and all zero where the problem is refused
