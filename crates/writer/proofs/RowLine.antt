@@ -3,14 +3,14 @@ use mathlib.Core.Path.{◌≡◌, refl, sym, ap, ◌∙◌}
 use mathlib.Core.List.{List, [], ◌∷◌, ◌++◌, append_assoc, append-nil}
 use Prim.Native.Nat.{ℕ, ◌+◌, ◌*◌, ◌≤◌, ◌<◌}
 use native.Mathlib.Omega.{arith}
-use lib.ListN.{length, get_or, set, take, drop, length-append}
+use lib.ListN.{length, get_or, set, take, length-append}
 use lib.Seq.{take_all, length-take-le}
 use Rattle.theory.proofs.Lists.Fill.{take_next}
 use Rattle.columns.specs.Column.{column, line_end}
 use Rattle.columns.proofs.Length.{column-length}
 use Rattle.writer.specs.inner.Place.{laid}
 use Rattle.writer.specs.Output.{row_line}
-use Rattle.writer.proofs.Laid.{laid-length, laid_next, laid_byte, laid_zero, laid_nothing}
+use Rattle.writer.proofs.Laid.{laid-length, laid_next, laid_byte, laid_nothing}
 
 -- the columns of a row
 abbrev pub columns_of : List ℕ → List ℕ

@@ -12,7 +12,7 @@ use Rattle.columns.specs.Column.{FitsColumn}
 abbrev pub Fits : ℤ → Type 0
 Fits z = FitsColumn 11 z
 
--- the four numbers of each line of `outputText`
+-- the four numbers of each line of `output_text`
 pub record OutputFits (p n : ℕ) (L : List SignedClass) (marks : List ℕ) : Type 0 where
   pub prime : Fits (pos p)
   pub precision : Fits (pos n)
@@ -23,12 +23,12 @@ pub record OutputFits (p n : ℕ) (L : List SignedClass) (marks : List ℕ) : Ty
   pub members : (i : ℕ) → i < length L → Fits (pos (member_count p n (natural p (signed_slot L i))))
   pub mark : (i : ℕ) → i < length L → Fits (pos (get_or marks i 0))
 
--- the two numbers of `refusalLine`
+-- the two numbers of `refusal_line`
 pub record RefusalFits (r : Refusal) : Type 0 where
   pub number : Fits (pos (number_of r))
   pub place : Fits (pos (place_of r))
 
--- those of `textOr`
+-- those of `text_or`
 abbrev pub FitsOr : Verdict → Type 0 → Type 0
 FitsOr passes text = text
 FitsOr (refuses r) text = RefusalFits r

@@ -1,4 +1,6 @@
 // The text writer: a list of classes, a refusal, or a row of numbers, as lines of columns in a lent text.
+#![tactic(auto)]
+
 ghost use Rattle.std.specs.Prelude.{◌≡◌, ◌++◌, ◌+◌, ◌*◌, ◌^◌, ◌≤◌, length, take, drop};
 ghost use Rattle.refusal.specs.Rules.{filled, rule12};
 ghost use Rattle.classes.specs.Rule7.{classes_of};
@@ -13,7 +15,7 @@ mod column;
 mod lines;
 mod row;
 
-#[derive(Drop)]
+#[derive(Clone, Copy)]
 pub enum Written {
     // the number of bytes written, which are the first of the text
     Bytes(usize),
