@@ -108,18 +108,18 @@ module _ {p n count : ℕ} {held : List Held} {C : List Congruence} (G : HeldIn 
   front-few : (i : ℕ) → i ≤ count → length (take i C) ≤ 16
   front-few i h = omega (arith, length-take-le i C (omega (arith, G.long)), G.few)
 
-  abbrev pub commonTo : ℕ → Common
-  commonTo i = common_for (solves_all p n (take i C)) p n
+  abbrev pub common_to : ℕ → Common
+  common_to i = common_for (solves_all p n (take i C)) p n
 
   list-to : (i : ℕ) → i ≤ count → length (signed_list (solves_all p n (take i C)) p n) ≤ 1024
   list-to i h = list-few p n G.usable (take i C) (front-polynomials i) (front-few i h)
 
   -- one polynomial more
-  pub cut-next : {i : ℕ} {common r : Common} {h : Held} → i < count → common ≡ commonTo i → h ≡ held_of p n (get_or C i none)
+  pub cut-next : {i : ℕ} {common r : Common} {h : Held} → i < count → common ≡ common_to i → h ≡ held_of p n (get_or C i none)
       → ((S T : ℕ → Bool) (tag : ℕ) → Usable p n (p ^ n) → common ≡ common_for S p n → h ≡ held_for tag T p n
       → length (signed_list S p n) ≤ 1024 → length (signed_list T p n) ≤ 64 → length (signed_list (both S T) p n) ≤ 1024
       → r ≡ common_for (both S T) p n)
-      → r ≡ commonTo (i + 1)
+      → r ≡ common_to (i + 1)
   cut-next {i} u common-is h-is cut =
       let c = get_or C i none in
       let l : i < length C = omega (arith, G.long) in

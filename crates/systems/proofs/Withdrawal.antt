@@ -198,8 +198,8 @@ beside_calls : {tag : ℕ} {c : Congruence} {M N : Model} → Beside tag c M N �
     → ((call : Call) → In call calls → Apart tag call) → NoneFull M calls → Beside tag c (after_all M calls) (after_all N calls)
 unfolding after_all answers_of
 beside_calls w [] apart none = w
-beside_calls w (call ∷ calls) apart none =
-    beside_calls (beside_call w call calls (apart call (here refl)) none) calls (λ x u. apart x (there u)) (λ u. none (there u))
+beside_calls {M = M} {N = N} w (call ∷ calls) apart none =
+    beside_calls {M = after M call} {N = after N call} (beside_call w call calls (apart call (here refl)) none) calls (λ x u. apart x (there u)) (λ u. none (there u))
 
 -- Added first and withdrawn last
 

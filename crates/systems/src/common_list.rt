@@ -4,7 +4,7 @@ ghost use Rattle.theory.specs.SignedList.{signed_list};
 ghost use Rattle.theory.specs.inner.Cut.{both};
 ghost use Rattle.numbers.specs.inner.Usable.{Usable};
 ghost use Rattle.systems.specs.Model.{Congruence, solves_all};
-ghost use Rattle.systems.specs.State.{slots, blank as blankOf, held_of, held_for, common_for};
+ghost use Rattle.systems.specs.State.{slots, blank as blank_of, held_of, held_for, common_for};
 ghost use Rattle.systems.specs.inner.Slots.{Polynomials};
 ghost use Rattle.systems.specs.inner.Cutting.{ListOf, Written};
 
@@ -106,7 +106,7 @@ pub(crate) fn cut_by(p: u32, n: u32, common: Common, held: Held) -> Common
 pub(crate) fn cut_by_all(p: u32, n: u32, held: [Held; 16], count: usize) -> Common
     requires { count ≤ 16 }
     ensures { (C : List Congruence) → Usable p n (p ^ n) → Polynomials C → length C ≡ count
-        → held ≡ slots 16 blankOf (map (held_of p n) C) → result ≡ common_for (solves_all p n C) p n }
+        → held ≡ slots 16 blank_of (map (held_of p n) C) → result ≡ common_for (solves_all p n C) p n }
 {
     let mut common = everything(numbers::power(p, n));
     let mut i: usize = 0;

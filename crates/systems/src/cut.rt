@@ -3,9 +3,9 @@
 ghost use Rattle.std.specs.Prelude.{◌≡◌, Bool, ℕ, ◌+◌, ◌^◌, ◌≤◌, ◌<◌, length};
 ghost use Rattle.theory.specs.SignedClass.{signed_class, signed_slot};
 ghost use Rattle.theory.specs.SignedList.{signed_list};
-ghost use Rattle.theory.specs.inner.Cut.{both, covered_by, covered as coveredOf};
+ghost use Rattle.theory.specs.inner.Cut.{both, covered_by, covered as covered_of};
 ghost use Rattle.classes.specs.Rule7.{classes_of};
-ghost use Rattle.systems.specs.inner.Cutting.{Powers, LevelsTo, first_is_next, covers as coversOf, KeptIf, ListOf, Written};
+ghost use Rattle.systems.specs.inner.Cutting.{Powers, LevelsTo, first_is_next, covers as covers_of, KeptIf, ListOf, Written};
 
 // The powers of p by their exponents, and 2^32 where it is more.
 fn powers(p: u32) -> [u64; 32]
@@ -36,7 +36,7 @@ fn covers(powers: &[u64; 32], a: i32, t: u8, z: i32, limit: u32) -> bool
 fn covered(powers: &[u64; 32], residues: &[i32], levels: &[u8], z: i32, limit: u32) -> bool
     requires { length residues.now ≡ length levels.now }
     ensures { (p n : ℕ) → Powers p n powers.now → LevelsTo n levels.now
-        → result ≡ coveredOf p limit z (classes_of residues.now levels.now) }
+        → result ≡ covered_of p limit z (classes_of residues.now levels.now) }
 {
     let mut i: usize = 0;
     while i < residues.len() {
@@ -79,11 +79,12 @@ fn keep_covered(
         × (length residues.old ≡ length levels.old) × (k ≤ length residues.old) }
     ensures within { result ≤ length residues.old }
     ensures kept { (p n : ℕ) → Powers p n powers.now → LevelsTo n s.now
-        → KeptIf (coversOf p more (classes_of b.now s.now)
+        → KeptIf (covers_of p more (classes_of b.now s.now)
         (signed_slot (classes_of a.now t.now) i)) (signed_slot (classes_of a.now t.now) i)
         k result residues.old residues.new levels.old levels.new }
 {
-    if !covered(powers, b, s, a[i], t[i] as u32 + more) {
+    let inside = covered(powers, b, s, a[i], t[i] as u32 + more);
+    if !inside {
         return k;
     }
     if residues.len() <= k {

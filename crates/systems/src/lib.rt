@@ -1,4 +1,6 @@
 // Systems of congruences under one p and n that come and go (02, 2.6): the common root list of up to 16 tagged polynomials.
+#![tactic(auto)]
+
 ghost use Rattle.std.specs.Prelude.{◌≡◌};
 ghost use Rattle.systems.specs.State.{opened_of, Added, Withdrawn, Fetches};
 
@@ -11,7 +13,7 @@ mod slots;
 
 // A held polynomial: its tag, and its root list in the first slots.
 #[repr(C)]
-#[derive(Drop)]
+#[derive(Clone, Copy)]
 pub struct Held {
     pub tag: u32,
     pub classes: u32,
@@ -21,7 +23,7 @@ pub struct Held {
 
 // The common root list, in the first slots, and the number of roots.
 #[repr(C)]
-#[derive(Drop)]
+#[derive(Clone, Copy)]
 pub struct Common {
     pub classes: usize,
     pub roots: u64,
@@ -32,7 +34,7 @@ pub struct Common {
 // A system. It goes by value: every call takes it and gives back the one to go on with. Slots that are not used are zero, so that a system
 // is determined by p, n and what it holds.
 #[repr(C)]
-#[derive(Drop)]
+#[derive(Clone, Copy)]
 pub struct System {
     pub p: u32,
     pub n: u32,
@@ -41,14 +43,14 @@ pub struct System {
     pub common: Common,
 }
 
-#[derive(Drop)]
+#[derive(Clone, Copy)]
 pub enum Outcome {
     Done,
     Refused(Refusal),
 }
 
 // The system after a call, which is the one before it where the call is refused, and the answer.
-#[derive(Drop)]
+#[derive(Clone, Copy)]
 pub struct Changed {
     pub system: System,
     pub outcome: Outcome,
@@ -85,7 +87,8 @@ pub fn add(system: System, tag: u32, coefficients: &[i64]) -> Changed
     if slots::index_of(held, count, tag) < count {
         return refused(system, Refusal::Tag);
     }
-    if count == 16 {
+    let full = count == 16;
+    if full {
         return refused(system, Refusal::Full);
     }
     let polynomial = slots::solved(tag, coefficients, system.p, system.n);
@@ -141,7 +144,7 @@ fn refused(system: System, refusal: Refusal) -> Changed
     }
 }
 
-#[derive(Drop)]
+#[derive(Clone, Copy)]
 pub enum Fetched {
     // the number of classes, which are the first entries of the lists, and the number of roots
     Found { classes: usize, roots: u64 },

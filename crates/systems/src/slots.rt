@@ -2,7 +2,7 @@
 ghost use Rattle.std.specs.Prelude.{◌≡◌, List, ◌^◌, ◌≤◌, ◌<◌, length, replicate};
 ghost use Rattle.numbers.specs.inner.Usable.{Usable};
 ghost use Rattle.systems.specs.Model.{congruence};
-ghost use Rattle.systems.specs.State.{slots, blank as blankOf, held_of};
+ghost use Rattle.systems.specs.State.{slots, blank as blank_of, held_of};
 ghost use Rattle.systems.specs.inner.Slots.{tag_index, removed_at};
 
 use crate::{Common, Held, System};
@@ -10,7 +10,7 @@ use solver::Solved;
 
 // A slot that is not used.
 fn blank() -> Held
-    ensures { result ≡ blankOf }
+    ensures { result ≡ blank_of }
 {
     Held {
         tag: 0,
@@ -22,7 +22,7 @@ fn blank() -> Held
 
 // The system that holds no polynomial, with this common list.
 pub(crate) fn empty(p: u32, n: u32, common: Common) -> System
-    ensures { result ≡ record { p = p; n = n; count = 0; held = replicate 16 blankOf; common = common } }
+    ensures { result ≡ record { p = p; n = n; count = 0; held = replicate 16 blank_of; common = common } }
 {
     let none = blank();
     System {
@@ -38,7 +38,7 @@ pub(crate) fn empty(p: u32, n: u32, common: Common) -> System
 pub(crate) fn index_of(held: [Held; 16], count: usize, tag: u32) -> usize
     requires { count ≤ 16 }
     ensures within { result ≤ count }
-    ensures index { (L : List Held) → length L ≡ count → held ≡ slots 16 blankOf L → result ≡ tag_index tag L }
+    ensures index { (L : List Held) → length L ≡ count → held ≡ slots 16 blank_of L → result ≡ tag_index tag L }
 {
     let mut i: usize = 0;
     while i < count {
@@ -53,7 +53,7 @@ pub(crate) fn index_of(held: [Held; 16], count: usize, tag: u32) -> usize
 // The slots without the one at an index: those after it move up.
 pub(crate) fn without(held: [Held; 16], at: usize, count: usize) -> [Held; 16]
     requires { (at < count) × (count ≤ 16) }
-    ensures { (L : List Held) → length L ≡ count → held ≡ slots 16 blankOf L → result ≡ slots 16 blankOf (removed_at at L) }
+    ensures { (L : List Held) → length L ≡ count → held ≡ slots 16 blank_of L → result ≡ slots 16 blank_of (removed_at at L) }
 {
     let mut left = held;
     let last = count - 1;

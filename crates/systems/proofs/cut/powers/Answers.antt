@@ -5,22 +5,12 @@ use Prim.Native.Nat.{ℕ, ◌+◌, ◌-◌, ◌*◌, ◌^◌, ◌≤◌, ◌<◌
 use native.Mathlib.Nat.{pow-zero, pow-le-pow_right, mul-le-mul_right, le_trans}
 use native.Mathlib.Decide.{ℕ_discrete}
 use native.Mathlib.Omega.{arith}
-use borrow.Author.Rules.{rules}
-use lib.ListN.{length, get_or, set, length-set, get_or-replicate}
+use lib.ListN.{get_or, set, length-set, get_or-replicate}
 use lib.Seq.{get_or-set_same, get_or-set_other}
 use Rattle.theory.proofs.Lists.Fill.{stored}
 use Rattle.theory.proofs.Numbers.Power.{pow_next, exponent_lt}
-use Rattle.systems.proofs.cut.powers.Statement.{statement}
-use Rattle.systems.proofs.cut.powers.Tie as tie
-
--- the first i entries are powers of p, where they are below 2^32
-abbrev PowersBelow : ℕ → List ℕ → ℕ → Type 0
-PowersBelow p table i = 2 ≤ p → (k : ℕ) → k < i → p ^ k ≤ 4294967295 → get_or table k 0 ≡ p ^ k
-
--- no entry is more than 2^32
-pub record Table (table : List ℕ) : Type 0 where
-  pub long : length table ≡ 32
-  pub small : (k : ℕ) → k < 32 → get_or table k 0 ≤ 4294967296
+use Rattle.systems.proofs.cut.powers.Invariants.{Table, PowersBelow}
+use Rattle.systems.proofs.cut.powers.Goals as goal
 
 -- one entry more
 module _ (p : ℕ) (table : List ℕ) (i v : ℕ) (T : Table table) (from : 1 ≤ i) (below : i < 32)
@@ -48,48 +38,34 @@ module _ (p : ℕ) (table : List ℕ) (i v : ℕ) (T : Table table) (from : 1 �
           pow_next p (i - 1) (powers two (i - 1) (omega arith) (omega arith)) ∙ ap (λ (x : ℕ). p ^ x) one in
           omega (arith, v-is, next)
 
-abbrev invariant-loop : tie.invariant-loop
-invariant-loop p table₀ base i₀ table i = (1 ≤ i) × (i ≤ 32) × Table table × PowersBelow p table i
-
-abbrev decreases-loop : tie.decreases-loop
-decreases-loop p table₀ base i₀ table i = 32 - i
-
-loop-holds : tie.Need-loop-init invariant-loop decreases-loop
-loop-holds c = (
+pub loop-i-init : goal.loop-i-init
+loop-i-init c = (
   omega arith,
   omega arith,
   record { long = refl; small = λ k h. omega (arith, get_or-replicate {A = ℕ} 32 k 1 0 h) },
   (λ two k h fits. let z : k ≡ 0 = omega arith in rw z (sym (pow-zero c.args.p))),
 )
 
-mul-smaller-2 : tie.Need-overflow-mul-smaller-2 invariant-loop decreases-loop
-mul-smaller-2 c =
-    let b = c.before in
-    let most = mul-le-mul_right b.before.args.p (b.loop.invariant.2.small (b.loop.i - 1) (omega arith)) in
-    record { fits = omega (arith, b.before.ranges.p) }
+pub overflow_mul-table : goal.overflow_mul-table
+overflow_mul-table c =
+    let most = mul-le-mul_right c.args.p (c.loop-i.invariant.2.small (c.loop-i.i - 1) (omega arith)) in
+    record { fits = omega (arith, c.ranges.p) }
 
-loop-again : tie.Need-loop-preserved invariant-loop decreases-loop
-loop-again c =
-    let b = c.before.before in
-    let l = b.loop.invariant in
-    let p = b.before.args.p in (
+pub loop-i-preserved : goal.loop-i-preserved
+loop-i-preserved c =
+    let l = c.loop-i.invariant in
+    let p = c.args.p in (
       omega arith,
       omega arith,
-      next-table p b.loop.table b.loop.i c.smaller.result l.2 l.0 (omega arith) c.smaller.ensures,
-      next_power p b.loop.table b.loop.i c.smaller.result l.2 l.0 (omega arith) c.smaller.ensures l.3,
+      next-table p c.loop-i.table c.loop-i.i c.smaller.result l.2 l.0 (omega arith) c.smaller.ensures,
+      next_power p c.loop-i.table c.loop-i.i c.smaller.result l.2 l.0 (omega arith) c.smaller.ensures l.3,
     )
 
-returns : tie.Need-returns invariant-loop decreases-loop
+pub returns : goal.returns
 returns c n two fits =
-    let l = c.before.loop.invariant in
-    let small = exponent_lt c.before.before.args.p n 32 two (omega (arith, fits)) in
+    let l = c.loop-i.invariant in
+    let small = exponent_lt c.args.p n 32 two (omega (arith, fits)) in
     record { small = small; at = λ t h. l.3 two t (omega arith) (lower t h) }
   where
-    lower : (t : ℕ) → t ≤ n → c.before.before.args.p ^ t ≤ 4294967295
+    lower : (t : ℕ) → t ≤ n → c.args.p ^ t ≤ 4294967295
     lower t h = le_trans (pow-le-pow_right (le_trans (omega arith) two) h) fits
-
-pub powers-spec : {M : Type 1} → statement M
-powers-spec =
-    tie.close
-    (tie.spec invariant-loop decreases-loop loop-holds (λ c. search rules) (λ c. search rules) (λ c. search rules) mul-smaller-2 (λ c κs. search rules)
-    (λ c. search rules) (λ c. search rules) (λ c. search rules) (λ c. search rules) loop-again returns)
