@@ -16,7 +16,7 @@ use Rattle.theory.proofs.Lists.Index.{in_at, index_of}
 use Rattle.theory.proofs.Lists.Map.{map_in, get_d_map}
 use Rattle.solver.specs.Solve.{solution}
 use Rattle.stepping.specs.Call.{Input, Accepted, first_levels, first_marks, first_slots}
-use Rattle.stepping.proofs.Accept.{first-levels, first_marks}
+use Rattle.stepping.proofs.Accept.{first-levels, first-marks}
 use Rattle.stepping.proofs.Demand.{slots-are, list_length, third-demand}
 use Rattle.lifting.specs.Lifting.{class_in}
 
@@ -48,7 +48,7 @@ module _ (x : Input) {k roots-found : ℕ} (A : Accepted x k roots-found) where
     pub mark-in : get_or (first_marks x k) i 0 ≡ mark x.f x.p x.n (class_in x k i)
     unfolding solution
     mark-in =
-        ap (λ (l : List ℕ). get_or l i 0) (first_marks x A)
+        ap (λ (l : List ℕ). get_or l i 0) (first-marks x A)
         ∙ get_d_map (λ (d : SignedClass). mark x.f x.p x.n (natural x.p d)) L i none 0 (omega (arith, list_length x A))
         ∙ ap (mark x.f x.p x.n) (sym (class-is i))
 

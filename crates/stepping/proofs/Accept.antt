@@ -34,9 +34,9 @@ module _ (x : Input) {k roots-found : ℕ} (A : Accepted x k roots-found) where
   unfolding lists_left
   first-levels = found-levels x.f x.p x.n x.given A.answer
 
-  pub first_marks : first_marks x k ≡ marks_of x.f x.p x.n
+  pub first-marks : first_marks x k ≡ marks_of x.f x.p x.n
   unfolding lists_left
-  first_marks = found-marks x.f x.p x.n x.given A.answer
+  first-marks = found-marks x.f x.p x.n x.given A.answer
 
   -- the first k slots are the list
   pub first-slots : first_slots x k ≡ solution x.f x.p x.n

@@ -27,36 +27,36 @@ use Rattle.stepping.specs.Encoded.{encode}
 use Rattle.stepping.specs.inner.Reached.{Reached}
 
 -- the point of the call after i calls
-unfoldable pub pointAfter : (ℕ → Answer) → ℕ → ℕ → ℕ
-pointAfter next q zero = q
-pointAfter next q (suc i) = pointAfter next (following (next q) q) i
+unfoldable pub point_after : (ℕ → Answer) → ℕ → ℕ → ℕ
+point_after next q zero = q
+point_after next q (suc i) = point_after next (following (next q) q) i
 
 -- one call more
-answers-suc : (next : ℕ → Answer) (q i : ℕ) → answers_from next q (suc i) ≡ answers_from next q i ++ (next (pointAfter next q i) ∷ [])
-unfolding answers_from pointAfter
+answers-suc : (next : ℕ → Answer) (q i : ℕ) → answers_from next q (suc i) ≡ answers_from next q i ++ (next (point_after next q i) ∷ [])
+unfolding answers_from point_after
 answers-suc next q zero = refl
 answers-suc next q (suc i) = ap (λ (l : List Answer). next q ∷ l) (answers-suc next (following (next q) q) i)
 
 point-suc : (next : ℕ → Answer) (q i : ℕ)
-    → pointAfter next q (suc i) ≡ following (next (pointAfter next q i)) (pointAfter next q i)
-unfolding pointAfter
+    → point_after next q (suc i) ≡ following (next (point_after next q i)) (point_after next q i)
+unfolding point_after
 point-suc next q zero = refl
 point-suc next q (suc i) = point-suc next (following (next q) q) i
 
-answers_next : (next : ℕ → Answer) (q i : ℕ) → answers_from next q (i + 1) ≡ answers_from next q i ++ (next (pointAfter next q i) ∷ [])
+answers_next : (next : ℕ → Answer) (q i : ℕ) → answers_from next q (i + 1) ≡ answers_from next q i ++ (next (point_after next q i) ∷ [])
 answers_next next q i = let e : i + 1 ≡ suc i = omega arith in rw e (answers-suc next q i)
 
 point-next : (next : ℕ → Answer) (q i : ℕ)
-    → pointAfter next q (i + 1) ≡ following (next (pointAfter next q i)) (pointAfter next q i)
+    → point_after next q (i + 1) ≡ following (next (point_after next q i)) (point_after next q i)
 point-next next q i = let e : i + 1 ≡ suc i = omega arith in rw e (point-suc next q i)
 
 -- after i calls the first i slots hold their answers, and `point` is the following call's
 pub record Gone (next : ℕ → Answer) (q i point : ℕ) (old answers : List ℕ) : Type 0 where
   pub slots : answers ≡ map encode (answers_from next q i) ++ drop i old
-  pub at : point ≡ pointAfter next q i
+  pub at : point ≡ point_after next q i
 
 pub gone-none : (next : ℕ → Answer) (q : ℕ) (old : List ℕ) → Gone next q 0 q old old
-unfolding answers_from pointAfter
+unfolding answers_from point_after
 gone-none next q old = record { slots = refl; at = refl }
 
 pub answers-length : (next : ℕ → Answer) (q i : ℕ) → length (answers_from next q i) ≡ i
@@ -78,10 +78,10 @@ gone-next next q i point point' code old answers h g c p =
     record {
       slots =
           ap₂ (λ (l : List ℕ) (x : ℕ). set l i x) g.slots (c ∙ ap (λ (x : ℕ). encode (next x)) g.at)
-          ∙ set_after (map encode (answers_from next q i)) old i (encode (next (pointAfter next q i)))
+          ∙ set_after (map encode (answers_from next q i)) old i (encode (next (point_after next q i)))
           (length-map (answers_from next q i) encode ∙ answers-length next q i) h
           ∙ ap (λ (l : List ℕ). l ++ drop (i + 1) old)
-          (sym (ap (map encode) (answers_next next q i) ∙ map-append encode (answers_from next q i) (next (pointAfter next q i) ∷ [])));
+          (sym (ap (map encode) (answers_next next q i) ∙ map-append encode (answers_from next q i) (next (point_after next q i) ∷ [])));
       at = p ∙ ap (λ (x : ℕ). following (next x) x) g.at ∙ sym (point-next next q i);
     }
 

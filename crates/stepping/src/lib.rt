@@ -1,6 +1,8 @@
 // Stepping (01, "Rival lists and stepping"): the solver and then next, called as 01 describes.
+#![tactic(auto)]
+
 ghost use Rattle.std.specs.Prelude.{◌≡◌, map, ℕ, ◌^◌, length};
-ghost use Rattle.theory.specs.Polynomial.{roots as rootsOf};
+ghost use Rattle.theory.specs.Polynomial.{roots as roots_of};
 ghost use Rattle.theory.specs.Stepping.{answers_from, following, claimed};
 ghost use Rattle.refusal.specs.Rules.{filled};
 ghost use Rattle.solver.specs.Solve.{lists as lists_of, solver_verdict, solved_of, lists_after};
@@ -33,7 +35,7 @@ pub fn step_through(
     ensures answers { answers.new
         ≡ filled (solver_verdict coefficients.now p n
         (lists_of residues.old levels.old marks.old))
-        (map encode (claimed (rootsOf coefficients.now p n) p n start (length answers.old)))
+        (map encode (claimed (roots_of coefficients.now p n) p n start (length answers.old)))
         answers.old }
 {
     match solver::solve(coefficients, p, n, residues, levels, marks) {
@@ -77,7 +79,7 @@ fn ask(p: u32, n: u32, residues: &[i32], levels: &[u8], start: u32, answers: &mu
     }
 }
 
-#[derive(Drop)]
+#[derive(Clone, Copy)]
 struct Asked {
     // the answer as a number
     code: u64,
