@@ -6,7 +6,7 @@ use Rattle.solver.specs.declared.Solved.TheVariants as solved
 use Rattle.solver.specs.declared.Tested.{Tested}
 use Rattle.solver.specs.declared.Tested.TheVariants as tested
 use Rattle.solver.specs.declared.TestedAll.{TestedAll}
-use Rattle.solver.specs.declared.TestedAll.TheVariants as testedAll
+use Rattle.solver.specs.declared.TestedAll.TheVariants as tested_all
 use Rattle.solver.specs.declared.Tabulated.{Tabulated}
 use Rattle.solver.specs.declared.Tabulated.TheVariants as tabulated
 use Rattle.solver.specs.declared.raise.Raised.{Raised}
@@ -39,63 +39,63 @@ use Rattle.capi.specs.declared.read_problem.ReadAnswer.{ReadAnswer}
 use Rattle.capi.specs.declared.write_classes.WriteAnswer.{WriteAnswer}
 
 -- "It returns k and the root count", and 02, 2.8: "The solver shall report the number of live classes"
-abbrev pub solveAnswer : Solved → SolveAnswer
-solveAnswer (solved.Found k roots live) = record { number = 0; place = 0; classes = k; roots = roots; live = live }
-solveAnswer (solved.Refused r) = record { number = number_of r; place = place_of r; classes = 0; roots = 0; live = 0 }
+abbrev pub solve_answer : Solved → SolveAnswer
+solve_answer (solved.Found k roots live) = record { number = 0; place = 0; classes = k; roots = roots; live = live }
+solve_answer (solved.Refused r) = record { number = number_of r; place = place_of r; classes = 0; roots = 0; live = 0 }
 
 -- "says yes exactly if pⁿ divides f there": 1 for yes, 0 for no
-abbrev pub testAnswer : Tested → TestAnswer
-testAnswer tested.Yes = record { number = 0; place = 0; root = 1 }
-testAnswer tested.No = record { number = 0; place = 0; root = 0 }
-testAnswer (tested.Refused r) = record { number = number_of r; place = place_of r; root = 0 }
+abbrev pub test_answer : Tested → TestAnswer
+test_answer tested.Yes = record { number = 0; place = 0; root = 1 }
+test_answer tested.No = record { number = 0; place = 0; root = 0 }
+test_answer (tested.Refused r) = record { number = number_of r; place = place_of r; root = 0 }
 
 -- every record has its answer, or the call is refused (02, 2.5)
-abbrev pub pointsAnswer : TestedAll → PointsAnswer
-pointsAnswer testedAll.Answered = record { number = 0; place = 0 }
-pointsAnswer (testedAll.Refused r) = record { number = number_of r; place = place_of r }
+abbrev pub points_answer : TestedAll → PointsAnswer
+points_answer tested_all.Answered = record { number = 0; place = 0 }
+points_answer (tested_all.Refused r) = record { number = number_of r; place = place_of r }
 
 -- the row of counts is written, or the call is refused (02, 2.1)
-abbrev pub countsAnswer : Tabulated → CountsAnswer
-countsAnswer tabulated.Filled = record { number = 0; place = 0 }
-countsAnswer (tabulated.Refused r) = record { number = number_of r; place = place_of r }
+abbrev pub counts_answer : Tabulated → CountsAnswer
+counts_answer tabulated.Filled = record { number = 0; place = 0 }
+counts_answer (tabulated.Refused r) = record { number = number_of r; place = place_of r }
 
 -- "whatever fills lists … returns k and the root count" (02, 2.6)
-abbrev pub raiseAnswer : Raised → RaiseAnswer
-raiseAnswer (raised.Found k roots) = record { number = 0; place = 0; classes = k; roots = roots }
-raiseAnswer (raised.Refused r) = record { number = number_of r; place = place_of r; classes = 0; roots = 0 }
+abbrev pub raise_answer : Raised → RaiseAnswer
+raise_answer (raised.Found k roots) = record { number = 0; place = 0; classes = k; roots = roots }
+raise_answer (raised.Refused r) = record { number = number_of r; place = place_of r; classes = 0; roots = 0 }
 
 -- a system is opened, or a polynomial added or withdrawn, or the call is refused (02, 2.6)
-abbrev pub systemAnswer : Outcome → SystemAnswer
-systemAnswer outcome.Done = record { number = 0; place = 0 }
-systemAnswer (outcome.Refused r) = record { number = number_of r; place = place_of r }
+abbrev pub system_answer : Outcome → SystemAnswer
+system_answer outcome.Done = record { number = 0; place = 0 }
+system_answer (outcome.Refused r) = record { number = number_of r; place = place_of r }
 
 -- "whatever fills lists … returns k and the root count" (02, 2.6)
-abbrev pub fetchAnswer : Fetched → FetchAnswer
-fetchAnswer (fetched.Found k roots) = record { number = 0; place = 0; classes = k; roots = roots }
-fetchAnswer (fetched.Refused r) = record { number = number_of r; place = place_of r; classes = 0; roots = 0 }
+abbrev pub fetch_answer : Fetched → FetchAnswer
+fetch_answer (fetched.Found k roots) = record { number = 0; place = 0; classes = k; roots = roots }
+fetch_answer (fetched.Refused r) = record { number = number_of r; place = place_of r; classes = 0; roots = 0 }
 
 -- "Next returns the least member at or after the point, or none": found is 1, or 0 for none
-abbrev pub nextAnswer : Next → NextAnswer
-nextAnswer (next.Root root) = record { number = 0; place = 0; found = 1; root = root }
-nextAnswer next.None = record { number = 0; place = 0; found = 0; root = 0 }
-nextAnswer (next.Refused r) = record { number = number_of r; place = place_of r; found = 0; root = 0 }
+abbrev pub next_answer : Next → NextAnswer
+next_answer (next.Root root) = record { number = 0; place = 0; found = 1; root = root }
+next_answer next.None = record { number = 0; place = 0; found = 0; root = 0 }
+next_answer (next.Refused r) = record { number = number_of r; place = place_of r; found = 0; root = 0 }
 
 -- the map is filled, or the call refused
-abbrev pub mapAnswer : Mapped → MapAnswer
-mapAnswer mapped.Filled = record { number = 0; place = 0 }
-mapAnswer (mapped.Refused r) = record { number = number_of r; place = place_of r }
+abbrev pub map_answer : Mapped → MapAnswer
+map_answer mapped.Filled = record { number = 0; place = 0 }
+map_answer (mapped.Refused r) = record { number = number_of r; place = place_of r }
 
 -- "counts the ones of its first pⁿ bits"
-abbrev pub countAnswer : Counted → CountAnswer
-countAnswer (counted.Ones ones) = record { number = 0; place = 0; ones = ones }
-countAnswer (counted.Refused r) = record { number = number_of r; place = place_of r; ones = 0 }
+abbrev pub count_answer : Counted → CountAnswer
+count_answer (counted.Ones ones) = record { number = 0; place = 0; ones = ones }
+count_answer (counted.Refused r) = record { number = number_of r; place = place_of r; ones = 0 }
 
 -- "The reader gives p, n, c and a row of 65 coefficients", of which the row is lent
-abbrev pub readAnswer : Read → ReadAnswer
-readAnswer (read.Given p n count end) = record { number = 0; place = 0; p = p; n = n; count = count }
-readAnswer (read.Refused r) = record { number = number_of r; place = place_of r; p = 0; n = 0; count = 0 }
+abbrev pub read_answer : Read → ReadAnswer
+read_answer (read.Given p n count end) = record { number = 0; place = 0; p = p; n = n; count = count }
+read_answer (read.Refused r) = record { number = number_of r; place = place_of r; p = 0; n = 0; count = 0 }
 
 -- the number of bytes written, or the refusal
-abbrev pub writeAnswer : Written → WriteAnswer
-writeAnswer (written.Bytes bytes) = record { number = 0; place = 0; bytes = bytes }
-writeAnswer (written.Refused r) = record { number = number_of r; place = place_of r; bytes = 0 }
+abbrev pub write_answer : Written → WriteAnswer
+write_answer (written.Bytes bytes) = record { number = 0; place = 0; bytes = bytes }
+write_answer (written.Refused r) = record { number = number_of r; place = place_of r; bytes = 0 }

@@ -1,12 +1,12 @@
 // The count of a root map for C.
 ghost use Rattle.std.specs.Prelude.{◌≡◌};
 ghost use Rattle.rootmap.specs.Map.{counted_of};
-ghost use Rattle.capi.specs.Answers.{countAnswer};
+ghost use Rattle.capi.specs.Answers.{count_answer};
 
 use rootmap::Counted;
 
 #[repr(C)]
-#[derive(Drop)]
+#[derive(Clone, Copy)]
 pub struct CountAnswer {
     pub number: u32,
     pub place: usize,
@@ -14,7 +14,7 @@ pub struct CountAnswer {
 }
 
 fn count_answer(counted: Counted) -> CountAnswer
-    ensures { result ≡ countAnswer counted }
+    ensures { result ≡ count_answer counted }
 {
     match counted {
         Counted::Ones(ones) => CountAnswer {
@@ -33,7 +33,7 @@ fn count_answer(counted: Counted) -> CountAnswer
 // `rootmap::count_map`. Rules 4, 14, 5, 9 and 10.
 #[unsafe(no_mangle)]
 pub extern "C" fn wimpleclay_count_map(p: u32, n: u32, map: &[u8]) -> CountAnswer
-    ensures { result ≡ countAnswer (counted_of p n map.now) }
+    ensures { result ≡ count_answer (counted_of p n map.now) }
 {
     count_answer(rootmap::count_map(p, n, map))
 }

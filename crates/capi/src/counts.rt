@@ -1,19 +1,19 @@
 // The root counts at every precision for C.
 ghost use Rattle.std.specs.Prelude.{◌≡◌, length};
 ghost use Rattle.solver.specs.Counts.{tabulated_of, counts_after};
-ghost use Rattle.capi.specs.Answers.{countsAnswer};
+ghost use Rattle.capi.specs.Answers.{counts_answer};
 
 use solver::Tabulated;
 
 #[repr(C)]
-#[derive(Drop)]
+#[derive(Clone, Copy)]
 pub struct CountsAnswer {
     pub number: u32,
     pub place: usize,
 }
 
 fn counts_answer(tabulated: Tabulated) -> CountsAnswer
-    ensures { result ≡ countsAnswer tabulated }
+    ensures { result ≡ counts_answer tabulated }
 {
     match tabulated {
         Tabulated::Filled => CountsAnswer {
@@ -35,7 +35,7 @@ pub extern "C" fn wimpleclay_counts(
     n: u32,
     counts: &mut [u64],
 ) -> CountsAnswer
-    ensures answer { result ≡ countsAnswer (tabulated_of coefficients.now p n (length counts.old)) }
+    ensures answer { result ≡ counts_answer (tabulated_of coefficients.now p n (length counts.old)) }
     ensures counts { counts.new ≡ counts_after coefficients.now p n counts.old }
 {
     counts_answer(solver::counts(coefficients, p, n, counts))

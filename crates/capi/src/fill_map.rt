@@ -1,19 +1,19 @@
 // The root map for C.
 ghost use Rattle.std.specs.Prelude.{◌≡◌, length};
 ghost use Rattle.rootmap.specs.Map.{mapped_of, map_filled};
-ghost use Rattle.capi.specs.Answers.{mapAnswer};
+ghost use Rattle.capi.specs.Answers.{map_answer};
 
 use rootmap::Mapped;
 
 #[repr(C)]
-#[derive(Drop)]
+#[derive(Clone, Copy)]
 pub struct MapAnswer {
     pub number: u32,
     pub place: usize,
 }
 
 fn map_answer(mapped: Mapped) -> MapAnswer
-    ensures { result ≡ mapAnswer mapped }
+    ensures { result ≡ map_answer mapped }
 {
     match mapped {
         Mapped::Filled => MapAnswer {
@@ -36,7 +36,7 @@ pub extern "C" fn wimpleclay_fill_map(
     levels: &[u8],
     map: &mut [u8],
 ) -> MapAnswer
-    ensures answer { result ≡ mapAnswer (mapped_of p n residues.now levels.now (length map.old)) }
+    ensures answer { result ≡ map_answer (mapped_of p n residues.now levels.now (length map.old)) }
     ensures map { map.new ≡ map_filled p n residues.now levels.now map.old }
 {
     map_answer(rootmap::fill_map(p, n, residues, levels, map))

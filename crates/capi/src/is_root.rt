@@ -1,12 +1,12 @@
 // The test of one residue for C.
 ghost use Rattle.std.specs.Prelude.{◌≡◌};
 ghost use Rattle.solver.specs.Solve.{tested_of};
-ghost use Rattle.capi.specs.Answers.{testAnswer};
+ghost use Rattle.capi.specs.Answers.{test_answer};
 
 use solver::Tested;
 
 #[repr(C)]
-#[derive(Drop)]
+#[derive(Clone, Copy)]
 pub struct TestAnswer {
     pub number: u32,
     pub place: usize,
@@ -15,7 +15,7 @@ pub struct TestAnswer {
 }
 
 fn test_answer(tested: Tested) -> TestAnswer
-    ensures { result ≡ testAnswer tested }
+    ensures { result ≡ test_answer tested }
 {
     match tested {
         Tested::Yes => TestAnswer {
@@ -39,7 +39,7 @@ fn test_answer(tested: Tested) -> TestAnswer
 // `solver::is_root`. Rules 2, 3, 4, 14, 5 and 8.
 #[unsafe(no_mangle)]
 pub extern "C" fn wimpleclay_is_root(coefficients: &[i64], p: u32, n: u32, point: u32) -> TestAnswer
-    ensures { result ≡ testAnswer (tested_of coefficients.now p n point) }
+    ensures { result ≡ test_answer (tested_of coefficients.now p n point) }
 {
     test_answer(solver::is_root(coefficients, p, n, point))
 }

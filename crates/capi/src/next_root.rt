@@ -1,12 +1,12 @@
 // The next root for C.
 ghost use Rattle.std.specs.Prelude.{◌≡◌};
 ghost use Rattle.classes.specs.Next.{next_of};
-ghost use Rattle.capi.specs.Answers.{nextAnswer};
+ghost use Rattle.capi.specs.Answers.{next_answer};
 
 use classes::Next;
 
 #[repr(C)]
-#[derive(Drop)]
+#[derive(Clone, Copy)]
 pub struct NextAnswer {
     pub number: u32,
     pub place: usize,
@@ -16,7 +16,7 @@ pub struct NextAnswer {
 }
 
 fn next_answer(next: Next) -> NextAnswer
-    ensures { result ≡ nextAnswer next }
+    ensures { result ≡ next_answer next }
 {
     match next {
         Next::Root(root) => NextAnswer {
@@ -49,7 +49,7 @@ pub extern "C" fn wimpleclay_next_root(
     levels: &[u8],
     point: u32,
 ) -> NextAnswer
-    ensures { result ≡ nextAnswer (next_of p n residues.now levels.now point) }
+    ensures { result ≡ next_answer (next_of p n residues.now levels.now point) }
 {
     next_answer(classes::next_root(p, n, residues, levels, point))
 }

@@ -2,12 +2,12 @@
 ghost use Rattle.std.specs.Prelude.{◌≡◌};
 ghost use Rattle.solver.specs.Solve.{lists as lists_of};
 ghost use Rattle.solver.specs.Raise.{raised_of, raised_lists};
-ghost use Rattle.capi.specs.Answers.{raiseAnswer};
+ghost use Rattle.capi.specs.Answers.{raise_answer};
 
 use solver::Raised;
 
 #[repr(C)]
-#[derive(Drop)]
+#[derive(Clone, Copy)]
 pub struct RaiseAnswer {
     pub number: u32,
     pub place: usize,
@@ -16,7 +16,7 @@ pub struct RaiseAnswer {
 }
 
 fn raise_answer(raised: Raised) -> RaiseAnswer
-    ensures { result ≡ raiseAnswer raised }
+    ensures { result ≡ raise_answer raised }
 {
     match raised {
         Raised::Found { classes, roots } => RaiseAnswer {
@@ -48,7 +48,7 @@ pub extern "C" fn wimpleclay_raise(
     levels: &mut [u8],
     marks: &mut [u8],
 ) -> RaiseAnswer
-    ensures answer { result ≡ raiseAnswer (raised_of coefficients.now p n m given_residues.now
+    ensures answer { result ≡ raise_answer (raised_of coefficients.now p n m given_residues.now
         given_levels.now (lists_of residues.old levels.old marks.old)) }
     ensures lists { lists_of residues.new levels.new marks.new
         ≡ raised_lists coefficients.now p n m given_residues.now given_levels.now

@@ -2,14 +2,14 @@
 ghost use Rattle.std.specs.Prelude.{◌≡◌, ◌++◌, ◌≤◌, length, drop};
 ghost use Rattle.refusal.specs.Rules.{filled};
 ghost use Rattle.text.specs.Form.{problem_of};
-ghost use Rattle.capi.specs.Answers.{readAnswer};
+ghost use Rattle.capi.specs.Answers.{read_answer};
 ghost use Rattle.capi.specs.Row.{row_checked, read_verdict};
 
 use refusal::Refusal;
 use text::Read;
 
 #[repr(C)]
-#[derive(Drop)]
+#[derive(Clone, Copy)]
 pub struct ReadAnswer {
     pub number: u32,
     pub place: usize,
@@ -19,7 +19,7 @@ pub struct ReadAnswer {
 }
 
 fn read_answer(read: Read) -> ReadAnswer
-    ensures { result ≡ readAnswer read }
+    ensures { result ≡ read_answer read }
 {
     match read {
         Read::Given {
@@ -73,7 +73,7 @@ fn put_row(row: [i64; 65], coefficients: &mut [i64])
 // Rules 1, 2 and 3, then 11 where the lent row has fewer than 65 slots; a refusal alters nothing.
 #[unsafe(no_mangle)]
 pub extern "C" fn wimpleclay_read_problem(text: &[u8], coefficients: &mut [i64]) -> ReadAnswer
-    ensures answer { result ≡ readAnswer (row_checked (problem_of text.now).read (length coefficients.old)) }
+    ensures answer { result ≡ read_answer (row_checked (problem_of text.now).read (length coefficients.old)) }
     ensures coefficients { coefficients.new
         ≡ filled (read_verdict (row_checked (problem_of text.now).read (length coefficients.old)))
         (problem_of text.now).coefficients coefficients.old }

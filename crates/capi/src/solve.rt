@@ -1,12 +1,12 @@
 // The solver for C.
 ghost use Rattle.std.specs.Prelude.{◌≡◌};
 ghost use Rattle.solver.specs.Solve.{lists as lists_of, solved_of, lists_after};
-ghost use Rattle.capi.specs.Answers.{solveAnswer};
+ghost use Rattle.capi.specs.Answers.{solve_answer};
 
 use solver::Solved;
 
 #[repr(C)]
-#[derive(Drop)]
+#[derive(Clone, Copy)]
 pub struct SolveAnswer {
     pub number: u32,
     pub place: usize,
@@ -16,7 +16,7 @@ pub struct SolveAnswer {
 }
 
 fn solve_answer(solved: Solved) -> SolveAnswer
-    ensures { result ≡ solveAnswer solved }
+    ensures { result ≡ solve_answer solved }
 {
     match solved {
         Solved::Found {
@@ -50,7 +50,7 @@ pub extern "C" fn wimpleclay_solve(
     levels: &mut [u8],
     marks: &mut [u8],
 ) -> SolveAnswer
-    ensures answer { result ≡ solveAnswer (solved_of coefficients.now p n
+    ensures answer { result ≡ solve_answer (solved_of coefficients.now p n
         (lists_of residues.old levels.old marks.old)) }
     ensures lists { lists_of residues.new levels.new marks.new
         ≡ lists_after coefficients.now p n

@@ -4,19 +4,19 @@ ghost use Rattle.std.specs.Prelude.{◌≡◌, length};
 ghost use Rattle.systems.specs.Model.{Model};
 ghost use Rattle.systems.specs.Calls.{done_or, open_verdict, fetched_of, fetched_residues, fetched_levels};
 ghost use Rattle.systems.specs.State.{Holds, opened_into, added_of, withdrawn_of};
-ghost use Rattle.capi.specs.Answers.{systemAnswer, fetchAnswer};
+ghost use Rattle.capi.specs.Answers.{system_answer, fetch_answer};
 
 use systems::{Fetched, Outcome, System};
 
 #[repr(C)]
-#[derive(Drop)]
+#[derive(Clone, Copy)]
 pub struct SystemAnswer {
     pub number: u32,
     pub place: usize,
 }
 
 #[repr(C)]
-#[derive(Drop)]
+#[derive(Clone, Copy)]
 pub struct FetchAnswer {
     pub number: u32,
     pub place: usize,
@@ -25,14 +25,14 @@ pub struct FetchAnswer {
 }
 
 // The system after a call, and the call's answer.
-#[derive(Drop)]
+#[derive(Clone, Copy)]
 struct SystemStep {
     system: System,
     answer: SystemAnswer,
 }
 
 fn system_answer(outcome: Outcome) -> SystemAnswer
-    ensures { result ≡ systemAnswer outcome }
+    ensures { result ≡ system_answer outcome }
 {
     match outcome {
         Outcome::Done => SystemAnswer {
@@ -47,7 +47,7 @@ fn system_answer(outcome: Outcome) -> SystemAnswer
 }
 
 fn fetch_answer(fetched: Fetched) -> FetchAnswer
-    ensures { result ≡ fetchAnswer fetched }
+    ensures { result ≡ fetch_answer fetched }
 {
     match fetched {
         Fetched::Found { classes, roots } => FetchAnswer {
@@ -66,7 +66,7 @@ fn fetch_answer(fetched: Fetched) -> FetchAnswer
 }
 
 fn open_step(p: u32, n: u32, system: System) -> SystemStep
-    ensures answer { result.answer ≡ systemAnswer (done_or (open_verdict p n)) }
+    ensures answer { result.answer ≡ system_answer (done_or (open_verdict p n)) }
     ensures system { result.system ≡ opened_into p n system }
 {
     let opened = systems::open(p, n);
@@ -84,7 +84,7 @@ fn open_step(p: u32, n: u32, system: System) -> SystemStep
 
 fn add_step(system: System, tag: u32, coefficients: &[i64]) -> SystemStep
     ensures answer { (M : Model) → Holds system M
-        → result.answer ≡ systemAnswer (added_of M tag coefficients.now).outcome }
+        → result.answer ≡ system_answer (added_of M tag coefficients.now).outcome }
     ensures system { (M : Model) → Holds system M → result.system ≡ (added_of M tag coefficients.now).system }
 {
     let added = systems::add(system, tag, coefficients);
@@ -97,7 +97,7 @@ fn add_step(system: System, tag: u32, coefficients: &[i64]) -> SystemStep
 }
 
 fn withdraw_step(system: System, tag: u32) -> SystemStep
-    ensures answer { (M : Model) → Holds system M → result.answer ≡ systemAnswer (withdrawn_of M tag).outcome }
+    ensures answer { (M : Model) → Holds system M → result.answer ≡ system_answer (withdrawn_of M tag).outcome }
     ensures system { (M : Model) → Holds system M → result.system ≡ (withdrawn_of M tag).system }
 {
     let withdrawn = systems::withdraw(system, tag);
@@ -111,7 +111,7 @@ fn withdraw_step(system: System, tag: u32) -> SystemStep
 
 fn fetch_step(system: System, residues: &mut [i32], levels: &mut [u8]) -> FetchAnswer
     ensures answer { (M : Model) → Holds system M
-        → result ≡ fetchAnswer (fetched_of M (length residues.old) (length levels.old)) }
+        → result ≡ fetch_answer (fetched_of M (length residues.old) (length levels.old)) }
     ensures residues { (M : Model) → Holds system M
         → residues.new ≡ fetched_residues M residues.old levels.old }
     ensures levels { (M : Model) → Holds system M
@@ -123,7 +123,7 @@ fn fetch_step(system: System, residues: &mut [i32], levels: &mut [u8]) -> FetchA
 // `systems::open`. Rules 4, 14 and 5; a refusal alters nothing.
 #[unsafe(no_mangle)]
 pub extern "C" fn wimpleclay_system_open(p: u32, n: u32, system: &mut System) -> SystemAnswer
-    ensures answer { result ≡ systemAnswer (done_or (open_verdict p n)) }
+    ensures answer { result ≡ system_answer (done_or (open_verdict p n)) }
     ensures system { system.new ≡ opened_into p n system.old }
 {
     let opened = open_step(p, n, *system);
@@ -139,7 +139,7 @@ pub extern "C" fn wimpleclay_system_add(
     coefficients: &[i64],
 ) -> SystemAnswer
     ensures answer { (M : Model) → Holds system.old M
-        → result ≡ systemAnswer (added_of M tag coefficients.now).outcome }
+        → result ≡ system_answer (added_of M tag coefficients.now).outcome }
     ensures system { (M : Model) → Holds system.old M
         → system.new ≡ (added_of M tag coefficients.now).system }
 {
@@ -151,7 +151,7 @@ pub extern "C" fn wimpleclay_system_add(
 // `systems::withdraw`. Rule 15; a refusal alters nothing.
 #[unsafe(no_mangle)]
 pub extern "C" fn wimpleclay_system_withdraw(system: &mut System, tag: u32) -> SystemAnswer
-    ensures answer { (M : Model) → Holds system.old M → result ≡ systemAnswer (withdrawn_of M tag).outcome }
+    ensures answer { (M : Model) → Holds system.old M → result ≡ system_answer (withdrawn_of M tag).outcome }
     ensures system { (M : Model) → Holds system.old M → system.new ≡ (withdrawn_of M tag).system }
 {
     let withdrawn = withdraw_step(*system, tag);
@@ -167,7 +167,7 @@ pub extern "C" fn wimpleclay_system_fetch(
     levels: &mut [u8],
 ) -> FetchAnswer
     ensures answer { (M : Model) → Holds system.now M
-        → result ≡ fetchAnswer (fetched_of M (length residues.old) (length levels.old)) }
+        → result ≡ fetch_answer (fetched_of M (length residues.old) (length levels.old)) }
     ensures residues { (M : Model) → Holds system.now M
         → residues.new ≡ fetched_residues M residues.old levels.old }
     ensures levels { (M : Model) → Holds system.now M

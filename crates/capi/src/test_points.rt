@@ -1,19 +1,19 @@
 // The test of many residues for C.
 ghost use Rattle.std.specs.Prelude.{◌≡◌};
 ghost use Rattle.solver.specs.Points.{tested_all_of, queries_after};
-ghost use Rattle.capi.specs.Answers.{pointsAnswer};
+ghost use Rattle.capi.specs.Answers.{points_answer};
 
 use solver::{Query, TestedAll};
 
 #[repr(C)]
-#[derive(Drop)]
+#[derive(Clone, Copy)]
 pub struct PointsAnswer {
     pub number: u32,
     pub place: usize,
 }
 
 fn points_answer(tested: TestedAll) -> PointsAnswer
-    ensures { result ≡ pointsAnswer tested }
+    ensures { result ≡ points_answer tested }
 {
     match tested {
         TestedAll::Answered => PointsAnswer {
@@ -35,7 +35,7 @@ pub extern "C" fn wimpleclay_test_points(
     n: u32,
     queries: &mut [Query],
 ) -> PointsAnswer
-    ensures answer { result ≡ pointsAnswer (tested_all_of coefficients.now p n) }
+    ensures answer { result ≡ points_answer (tested_all_of coefficients.now p n) }
     ensures queries { queries.new ≡ queries_after coefficients.now p n queries.old }
 {
     points_answer(solver::test_points(coefficients, p, n, queries))

@@ -4,12 +4,12 @@ ghost use Rattle.refusal.specs.Rules.{filled};
 ghost use Rattle.classes.specs.Rule7.{classes_of};
 ghost use Rattle.writer.specs.Output.{output_text};
 ghost use Rattle.writer.specs.Written.{writer_verdict, written_of};
-ghost use Rattle.capi.specs.Answers.{writeAnswer};
+ghost use Rattle.capi.specs.Answers.{write_answer};
 
 use writer::Written;
 
 #[repr(C)]
-#[derive(Drop)]
+#[derive(Clone, Copy)]
 pub struct WriteAnswer {
     pub number: u32,
     pub place: usize,
@@ -17,7 +17,7 @@ pub struct WriteAnswer {
 }
 
 fn write_answer(written: Written) -> WriteAnswer
-    ensures { result ≡ writeAnswer written }
+    ensures { result ≡ write_answer written }
 {
     match written {
         Written::Bytes(bytes) => WriteAnswer {
@@ -43,7 +43,7 @@ pub extern "C" fn wimpleclay_write_classes(
     marks: &[u8],
     text: &mut [u8],
 ) -> WriteAnswer
-    ensures answer { result ≡ writeAnswer (written_of p n residues.now levels.now marks.now
+    ensures answer { result ≡ write_answer (written_of p n residues.now levels.now marks.now
         (length text.old)) }
     ensures text { text.new
         ≡ filled (writer_verdict p n residues.now levels.now marks.now (length text.old))

@@ -1,2 +1,0 @@
--- What the proofs of the functions on a system use.
-mod Types
