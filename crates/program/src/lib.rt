@@ -1,4 +1,6 @@
-// What the program prints for what it reads: all that it does but reading and writing.
+// What the program prints for what it reads: all that it does but writing.
+#![tactic(auto)]
+
 ghost use Rattle.std.specs.Prelude.{◌≡◌, ◌++◌, ◌≤◌, ◌<◌, length, take, drop};
 ghost use Rattle.refusal.specs.Rules.{filled};
 ghost use Rattle.program.specs.Printed.{solved_text, printed_text, buffer_verdict, written_in};
@@ -6,6 +8,10 @@ ghost use Rattle.program.specs.Printed.{solved_text, printed_text, buffer_verdic
 use solver::Solved;
 use text::Read;
 use writer::Written;
+
+mod reading;
+
+pub use reading::read_full;
 
 // What is printed for a problem text, in the first bytes of `out`: the block of its root classes, or the line of the refusal; later bytes
 // keep their content. It answers how many bytes it wrote. Where `out` has fewer bytes than that, it is refused by rule 12, with their
