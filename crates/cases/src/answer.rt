@@ -1,7 +1,7 @@
 // An answer as the first letter and the first two numbers of its text.
 use refusal::Refusal;
 
-#[derive(Drop)]
+#[derive(Clone, Copy)]
 pub(crate) struct Answer {
     // k for classes, y, n, d for done, f for filled, p for simple digits, r for refused, # for a number
     pub(crate) letter: u8,

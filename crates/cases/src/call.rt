@@ -1,7 +1,7 @@
 // A call as its text says it.
 use crate::rows::Row;
 
-#[derive(Drop)]
+#[derive(Clone, Copy)]
 pub(crate) struct Call {
     pub(crate) p: u32,
     pub(crate) n: u32,

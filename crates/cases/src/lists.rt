@@ -1,7 +1,7 @@
 // Lists of classes made of the numbers of a row.
 use crate::rows::Row;
 
-#[derive(Drop)]
+#[derive(Clone, Copy)]
 pub(crate) struct Lists {
     pub(crate) residues: [i32; 66],
     pub(crate) levels: [u8; 66],

@@ -6,6 +6,8 @@
 // adding, v withdrawal, f fetching.
 //
 // A number modulo a bound above its range, as in `at % 256`, is the number: the checker then needs no proof of the range.
+#![tactic(auto)]
+
 mod answer;
 mod bytes;
 mod call;
@@ -24,14 +26,14 @@ mod system;
 mod writing;
 
 use answer::Answer;
-use libc::{STDIN_FILENO, STDOUT_FILENO};
 use rows::{Row, byte_at, numbers};
+use std::io;
 use std::num::wrapping_add_u32;
 use system::Turn;
 use systems::System;
 
 // The place in the input, how many cases there were, how many answers differ from the expected ones, and the system.
-#[derive(Drop)]
+#[derive(Clone, Copy)]
 struct State {
     at: usize,
     cases: u32,
@@ -40,12 +42,13 @@ struct State {
 }
 
 // Prints a part of the text.
-fn print(text: &[u8], from: usize, to: usize) {
+fn print(rt: &impl Print, text: &[u8], from: usize, to: usize) -> io::Result<()> {
     if to <= text.len() {
         if from <= to {
-            io::write_all(STDOUT_FILENO, &text[from..to]);
+            rt.write_all(&text[from..to])?;
         }
     }
+    Ok(())
 }
 
 // How many numbers of the call belong to a class.
@@ -129,7 +132,7 @@ fn letter_at(text: &[u8], at: usize) -> u8 {
 }
 
 // One case: its line is printed, and another one if the answer differs.
-fn case(text: &[u8], s: State) -> State {
+fn case(rt: &impl Print, text: &[u8], s: State) -> io::Result<State> {
     let operation = byte_at(text, s.at);
     let slots = numbers(text, s.at, b';');
     let given = numbers(text, slots.next, b'|');
@@ -143,36 +146,36 @@ fn case(text: &[u8], s: State) -> State {
         & (a.letter == letter_at(text, said.next))
         & (a.first == expected.item(0))
         & (a.second == expected.item(1));
-    print(text, given.next, expected.next);
+    print(rt, text, given.next, expected.next)?;
     if !same {
-        io::write_all(STDOUT_FILENO, b"the answer differs\n");
+        rt.write_all(b"the answer differs\n")?;
     }
-    State {
+    Ok(State {
         at: expected.next,
         cases: s.cases % 1000 + 1,
         differ: wrapping_add_u32(s.differ, !same as u32),
         system,
-    }
+    })
 }
 
 // One line: a case, which starts with a small letter, or what is printed as it is.
-fn line(text: &[u8], s: State) -> State {
+fn line(rt: &impl Print, text: &[u8], s: State) -> io::Result<State> {
     if b'a' <= byte_at(text, s.at) {
-        return case(text, s);
+        return case(rt, text, s);
     }
     let row = numbers(text, s.at, b'\n');
-    print(text, s.at, row.next);
+    print(rt, text, s.at, row.next)?;
     let system = s.system;
-    State {
+    Ok(State {
         at: row.next,
         cases: s.cases,
         differ: s.differ,
         system,
-    }
+    })
 }
 
 // All lines, which are fewer than a thousand.
-fn run(text: &[u8]) -> State {
+fn run(rt: &impl Print, text: &[u8]) -> io::Result<State> {
     let mut s = State {
         at: 0,
         cases: 0,
@@ -182,20 +185,19 @@ fn run(text: &[u8]) -> State {
     let mut i: u32 = 0;
     while i < 1000 {
         if text.len() <= s.at {
-            return s;
+            return Ok(s);
         }
-        s = line(text, s);
+        s = line(rt, text, s)?;
         i += 1;
     }
-    s
+    Ok(s)
 }
 
-fn main() {
-    let mut buffer = io::large_buffer();
-    let n = io::read_full(STDIN_FILENO, &mut buffer);
-    let s = run(&buffer[..n]);
-    io::print_decimal(STDOUT_FILENO, s.cases as u64);
-    io::write_all(STDOUT_FILENO, b" cases, ");
-    io::print_decimal(STDOUT_FILENO, s.differ as u64);
-    io::write_all(STDOUT_FILENO, b" differ\n");
+fn main(rt: HostRuntime) -> io::Result<()> {
+    let mut text = [0u8; 65536];
+    let n = program::read_full(&mut rt.reader(), &mut text)?;
+    let s = run(&rt, &text[..n])?;
+    let cases = s.cases;
+    let differ = s.differ;
+    println!(rt; "{cases} cases, {differ} differ")
 }

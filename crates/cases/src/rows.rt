@@ -2,7 +2,7 @@
 use std::num::{wrapping_add_usize, wrapping_sub_u64};
 
 // The numbers in a part of a text, and zeros after them.
-#[derive(Drop)]
+#[derive(Clone, Copy)]
 pub(crate) struct Row {
     pub(crate) count: usize,
     // the index of the number after the last letter p

@@ -10,7 +10,7 @@ use solver::{Solved, Tested};
 use std::num::wrapping_add_u32;
 
 // The solver's list: the first k slots.
-#[derive(Drop)]
+#[derive(Clone, Copy)]
 struct Classes {
     k: usize,
     residues: [i32; 66],

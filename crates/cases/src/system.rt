@@ -7,7 +7,7 @@ use crate::{answer, prefix, solving};
 use systems::{Changed, Fetched, Outcome, System};
 
 // The system after a case, and the answer.
-#[derive(Drop)]
+#[derive(Clone, Copy)]
 pub(crate) struct Turn {
     pub(crate) system: System,
     pub(crate) answer: Answer,

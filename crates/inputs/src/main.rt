@@ -1,13 +1,15 @@
 // Runs the program on the texts of standard input and prints for each its number and what the program prints for it: refusal number and
 // place, or the classes. A text ends before a =, which a note follows to the line's end.
-use libc::{STDIN_FILENO, STDOUT_FILENO};
+#![tactic(auto)]
+
+use std::io;
 
 // Prints the number of a text and what is printed for it.
-fn show(number: u64, text: &[u8]) {
+fn show(rt: &impl Print, number: u64, text: &[u8]) -> io::Result<()> {
     let mut out = [0u8; 2925];
     let bytes = program::print_whole(text, &mut out);
-    io::print_decimal(STDOUT_FILENO, number);
-    io::write_all(STDOUT_FILENO, &out[..bytes]);
+    print!(rt; "{number}")?;
+    rt.write_all(&out[..bytes])
 }
 
 // The place of the next such byte, from a place on.
@@ -33,22 +35,23 @@ fn part(input: &[u8], from: usize, to: usize) -> &[u8] {
 }
 
 // All texts, which are fewer than a thousand.
-fn show_all(input: &[u8]) {
+fn show_all(rt: &impl Print, input: &[u8]) -> io::Result<()> {
     let mut at: usize = 0;
     let mut number: u64 = 0;
     while number < 1000 {
         if input.len() <= at {
-            return;
+            return Ok(());
         }
         number += 1;
         let end = place_of(b'=', input, at);
-        show(number, part(input, at, end));
+        show(rt, number, part(input, at, end))?;
         at = place_of(b'\n', input, end) % 65536 + 1;
     }
+    Ok(())
 }
 
-fn main() {
-    let mut input = io::large_buffer();
-    let n = io::read_full(STDIN_FILENO, &mut input);
-    show_all(&input[..n]);
+fn main(rt: HostRuntime) -> io::Result<()> {
+    let mut input = [0u8; 65536];
+    let n = program::read_full(&mut rt.reader(), &mut input)?;
+    show_all(&rt, &input[..n])
 }

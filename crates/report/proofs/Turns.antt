@@ -5,7 +5,7 @@ use Prim.Native.Nat.{ℕ, ◌+◌, ◌-◌, ◌≤◌, ◌<◌}
 use native.Mathlib.Omega.{arith}
 use lib.ListN.{length, take, drop, length-take, length-drop}
 use lib.Seq.{length-take-le, take-add, drop_at, drop-drop}
-use borrow.Rule.Slice.PartMut.{mid_of, put_mid, take_put, same_len_mid}
+use borrow.Rule.Slice.PartMut.{mid_of, put_mid, take_put}
 use Rattle.report.specs.declared.step.Totals.{Totals}
 use Rattle.report.specs.declared.step.Stepped.{Stepped}
 use Rattle.report.specs.declared.step.Stepped.TheVariants.{Line, Stop, Wait}
@@ -129,7 +129,7 @@ module _ (at : Place) (buffer : List ℕ) (size : 65536 ≡ length buffer) (plac
 
     -- n bytes are read
     module _ (n : ℕ) (some : n ≡ 0 → ⊥) (part : length ys ≡ length (mid_of held (length moved - held) moved))
-        (read : n ≤ length (mid_of held (length now - held) now)) (few : at.to < at.from + 1399) where
+        (read : n ≤ length ys) (few : at.to < at.from + 1399) where
       abbrev to : Place
       to = record { totals = at.totals; from = 0; to = held + n }
 
@@ -137,9 +137,9 @@ module _ (at : Place) (buffer : List ℕ) (size : 65536 ≡ length buffer) (plac
       read-inside =
           omega (
             arith,
-            length-take (length now - held) (drop held now),
-            length-drop held now,
-            same_len_mid held (length moved - held) moved ys part,
+            part,
+            length-take (length moved - held) (drop held moved),
+            length-drop held moved,
             moved-size,
             held-inside,
           )

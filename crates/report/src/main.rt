@@ -1,33 +1,64 @@
 // The report: a text of problems on standard input, of any length; on standard output a line of counts for each, and a last line.
 // `turn` is one turn, as `Run` of the specs has it: a step at the front of the bytes read writes a line, or the line that ends the report;
 // where it waits, one read adds what there is, and a read of nothing is the end of the text.
-ghost use Rattle.std.specs.Prelude.{◌≡◌, ◌+◌, ◌-◌, ◌<◌, length, take, drop};
+#![tactic(auto)]
+
+ghost use Rattle.std.specs.Prelude.{◌≡◌, ◌+◌, ◌-◌, ◌≤◌, ◌<◌, length, take, drop};
 ghost use Rattle.report.specs.Run.{wait};
 ghost use Rattle.report.specs.inner.Outcomes.{outcome};
 ghost use Rattle.report.specs.inner.Places.{Placed, unused, Going, Turned};
 
-use libc::{STDIN_FILENO, STDOUT_FILENO};
+use std::io;
+use std::io::Read;
 use step::{Stepped, Totals};
 
 mod step;
 mod window;
 
 // The totals, and the part of the buffer that holds the bytes that are read and not yet used.
-#[derive(Drop)]
+#[derive(Clone, Copy)]
 struct Place {
     totals: Totals,
     from: usize,
     to: usize,
 }
 
-#[derive(Drop)]
+#[derive(Clone, Copy)]
 enum Next {
     Go(Place),
     Done,
 }
 
+// Writes a line, unless a write or a read has failed before. `done` keeps the first error, which `main` returns.
+fn write(rt: &impl Print, line: &[u8], done: &mut io::Result<()>) {
+    if done.is_ok() {
+        *done = rt.write_all(line);
+    }
+}
+
+// One read, which gives a number of the buffer's first bytes; one that fails gives none.
+fn read(input: &mut impl Read, buffer: &mut [u8], done: &mut io::Result<()>) -> usize
+    ensures { result ≤ length buffer.new }
+{
+    match input.read(buffer) {
+        Ok(n) => n,
+        Err(e) => {
+            if done.is_ok() {
+                *done = Err(e);
+            }
+            0
+        }
+    }
+}
+
 // One turn: a problem's line, the line that ends the report, or a read.
-fn turn(at: Place, buffer: &mut [u8]) -> Next
+fn turn(
+    rt: &impl Print,
+    input: &mut impl Read,
+    done: &mut io::Result<()>,
+    at: Place,
+    buffer: &mut [u8],
+) -> Next
     requires value { 65536 ≡ length buffer.old }
     requires placed { Placed at }
     ensures going { Going at result }
@@ -43,7 +74,7 @@ fn turn(at: Place, buffer: &mut [u8]) -> Next
             end,
             bytes,
         } => {
-            io::write_all(STDOUT_FILENO, &line[..bytes]);
+            write(rt, &line[..bytes], done);
             Next::Go(Place {
                 totals: next,
                 from: from + end,
@@ -51,15 +82,23 @@ fn turn(at: Place, buffer: &mut [u8]) -> Next
             })
         }
         Stepped::Stop(bytes) => {
-            io::write_all(STDOUT_FILENO, &line[..bytes]);
+            write(rt, &line[..bytes], done);
             Next::Done
         }
-        Stepped::Wait => more(totals, buffer, from, to),
+        Stepped::Wait => more(rt, input, done, totals, buffer, from, to),
     }
 }
 
 // The bytes moved to the front of the buffer, and those that a read adds behind them; or the end of the text.
-fn more(totals: Totals, buffer: &mut [u8], from: usize, to: usize) -> Next
+fn more(
+    rt: &impl Print,
+    input: &mut impl Read,
+    done: &mut io::Result<()>,
+    totals: Totals,
+    buffer: &mut [u8],
+    from: usize,
+    to: usize,
+) -> Next
     requires value { 65536 ≡ length buffer.old }
     requires placed { Placed (record { totals = totals; from = from; to = to }) }
     requires to_bound { to < from + 1399 }
@@ -69,12 +108,11 @@ fn more(totals: Totals, buffer: &mut [u8], from: usize, to: usize) -> Next
 {
     window::shift(buffer, from, to);
     let held = to - from;
-    let got = libc::read(STDIN_FILENO, &mut buffer[held..]);
-    let n = io::count(got, &buffer[held..]);
+    let n = read(input, &mut buffer[held..], done);
     if n == 0 {
         let mut line = [0u8; 641];
         let bytes = step::finish(totals, &buffer[..held], &mut line);
-        io::write_all(STDOUT_FILENO, &line[..bytes]);
+        write(rt, &line[..bytes], done);
         return Next::Done;
     }
     Next::Go(Place {
@@ -85,8 +123,10 @@ fn more(totals: Totals, buffer: &mut [u8], from: usize, to: usize) -> Next
 }
 
 // The turns end: each uses up one of at most 1,000 problems, or reads bytes of one that has fewer than 1,399.
-fn main() {
-    let mut space = io::large_buffer();
+fn main(rt: HostRuntime) -> io::Result<()> {
+    let mut input = rt.reader();
+    let mut done = Ok(());
+    let mut space = [0u8; 65536];
     let buffer: &mut [u8] = &mut space;
     let mut at = Place {
         totals: Totals {
@@ -99,12 +139,12 @@ fn main() {
         to: 0,
     };
     loop {
-        match turn(at, buffer) {
+        match turn(&rt, &mut input, &mut done, at, buffer) {
             Next::Go(next) => {
                 at = next;
             }
             Next::Done => {
-                return;
+                return done;
             }
         }
     }

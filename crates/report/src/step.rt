@@ -12,7 +12,7 @@ use writer::Written;
 
 // The offset from the start of the text, and what the last line says: the number of problems so far, of those without a root, and of all
 // their roots.
-#[derive(Drop)]
+#[derive(Clone, Copy)]
 pub(crate) struct Totals {
     pub(crate) at: usize,
     pub(crate) problems: u64,
@@ -21,7 +21,7 @@ pub(crate) struct Totals {
 }
 
 // What a step did.
-#[derive(Drop)]
+#[derive(Clone, Copy)]
 pub(crate) enum Stepped {
     // a problem's line, of so many bytes; the problem is the first `end` bytes
     Line {

@@ -2,7 +2,7 @@
 use crate::modular::{Modulus, multiply_add};
 use crate::table::entry;
 
-// Whether k is at most D and `live` at most 1 + typeof.n.D, or both are 1 where all coefficients are zero. h has the coefficients divided by p^s,
+// Whether k is at most D and `live` at most 1 + n·D, or both are 1 where all coefficients are zero. h has the coefficients divided by p^s,
 // and D is the highest index at which p does not divide it.
 pub(crate) fn holds(h: [u32; 65], x: Modulus, k: usize, live: u64) -> bool {
     let mut i: usize = 65;

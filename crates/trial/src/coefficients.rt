@@ -8,7 +8,7 @@ use std::num::{wrapping_sub_u32, wrapping_sub_u64};
 const LARGEST: u64 = 9223372036854775807;
 
 // Where coefficients come from.
-#[derive(Drop)]
+#[derive(Clone, Copy)]
 pub(crate) enum Source {
     // the digits of a number to the base m, those at odd places less m
     Digits(u32),
@@ -19,7 +19,7 @@ pub(crate) enum Source {
 }
 
 // x, or −1 − x if it is negative; x is below 2^63.
-#[derive(Drop)]
+#[derive(Clone, Copy)]
 struct Number {
     x: u64,
     negative: bool,
@@ -107,7 +107,7 @@ fn number_at(source: Source, d: u32, place: u32, m: u32) -> Number {
 }
 
 // A coefficient as the solver takes it, and modulo m.
-#[derive(Drop)]
+#[derive(Clone, Copy)]
 struct Coefficient {
     f: i64,
     g: u32,
@@ -124,7 +124,7 @@ fn with_residue(s: Number, m: u32) -> Coefficient {
 }
 
 // A polynomial: its c coefficients, and the same modulo m.
-#[derive(Drop)]
+#[derive(Clone, Copy)]
 pub(crate) struct Polynomial {
     pub(crate) c: usize,
     pub(crate) f: [i64; 65],

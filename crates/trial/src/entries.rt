@@ -9,7 +9,7 @@ use crate::{listed, marks};
 use std::num::wrapping_add_usize;
 
 // The classes of the roots as they are to be listed: their number, a for each residue a − m, and their levels.
-#[derive(Drop)]
+#[derive(Clone, Copy)]
 pub(crate) struct Entries {
     k: usize,
     numbers: [u32; 65],

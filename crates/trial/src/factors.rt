@@ -5,7 +5,7 @@ use crate::table::entry;
 use std::num::{wrapping_sub_u32, wrapping_sub_usize};
 
 // The factor x^e + a·x^d.
-#[derive(Drop)]
+#[derive(Clone, Copy)]
 pub(crate) struct Factor {
     pub(crate) e: u32,
     pub(crate) d: u32,

@@ -3,7 +3,7 @@ use crate::plain::Roots;
 use std::num::wrapping_add_u32;
 
 // Sets of tags, of which there are 32: bit k for tag number k.
-#[derive(Drop)]
+#[derive(Clone, Copy)]
 pub(crate) struct Held {
     tags: u32,
     unsolved: [u32; 520],

@@ -7,7 +7,7 @@ use solver::{Query, Raised, Solved, Tested};
 use systems::{Changed, Fetched, Outcome, System};
 
 // The answer of a call that fills lists, and the lists after it.
-#[derive(Drop)]
+#[derive(Clone, Copy)]
 pub(crate) struct Solution {
     // the number of classes, and 65 for a refusal
     pub(crate) k: usize,
@@ -129,7 +129,7 @@ pub(crate) fn next(residues: [i32; 65], levels: [u8; 65], k: usize, x: Modulus, 
 }
 
 // A map after a call, and whether it was filled.
-#[derive(Drop)]
+#[derive(Clone, Copy)]
 pub(crate) struct Map {
     pub(crate) filled: bool,
     pub(crate) bits: [u8; 64],
@@ -168,7 +168,7 @@ pub(crate) fn count(bits: [u8; 64], bytes: usize, x: Modulus) -> u64 {
 }
 
 // A system after a call, and the answer: 0 for done, otherwise the number of the refusal.
-#[derive(Drop)]
+#[derive(Clone, Copy)]
 pub(crate) struct Call {
     pub(crate) system: System,
     pub(crate) answer: u32,

@@ -32,7 +32,7 @@ fn substituted(g: [u32; 65], c: usize, a: u32, q: u32, end: usize, m: u32) -> [u
 }
 
 // The live classes found so far.
-#[derive(Drop)]
+#[derive(Clone, Copy)]
 struct Live {
     // how many of them have been visited
     count: u32,

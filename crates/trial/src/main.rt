@@ -5,6 +5,8 @@
 // that solve all. The last line says how many answers differ.
 //
 // A number modulo a bound above its range, as in `c % 66`, is the number: the checker then needs no proof of the range.
+#![tactic(auto)]
+
 mod bound;
 mod coefficients;
 mod comparison;
@@ -36,6 +38,7 @@ mod table;
 mod tally;
 
 use modular::{Modulus, multiply_add, power};
+use std::io;
 use tally::Tally;
 
 // The powers below 512 of eight primes, each as the digits of p, of n, and of the number of coefficients up to which all polynomials are
@@ -63,7 +66,7 @@ fn families(x: Modulus, c: u32, mut tally: Tally) -> Tally {
     tally
 }
 
-fn main() {
+fn main(rt: HostRuntime) -> io::Result<()> {
     let mut tally = Tally {
         counts: [0; tally::PLACES],
     };
@@ -76,5 +79,5 @@ fn main() {
         tally = families(Modulus { p, n, m }, row % 10, tally);
         i += 1;
     }
-    tally.print();
+    tally.print(&rt)
 }

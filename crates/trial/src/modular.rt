@@ -1,7 +1,7 @@
 // Arithmetic on unsigned numbers, with an answer for every argument.
 
 // m = pⁿ
-#[derive(Drop)]
+#[derive(Clone, Copy)]
 pub(crate) struct Modulus {
     pub(crate) p: u32,
     pub(crate) n: u32,

@@ -4,7 +4,7 @@ use crate::table::entry;
 use std::num::wrapping_add_u32;
 
 // The values of a polynomial and of its derivative.
-#[derive(Drop)]
+#[derive(Clone, Copy)]
 pub(crate) struct Value {
     pub(crate) value: u32,
     pub(crate) derivative: u32,
@@ -24,7 +24,7 @@ pub(crate) fn evaluate(g: [u32; 65], c: usize, r: u32, m: u32) -> Value {
 }
 
 // 1 at each root below m, 0 elsewhere, and the number of roots.
-#[derive(Drop)]
+#[derive(Clone, Copy)]
 pub(crate) struct Roots {
     pub(crate) count: u32,
     pub(crate) at: [u8; 520],

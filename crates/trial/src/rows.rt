@@ -9,7 +9,7 @@ use crate::{entries, library, listed, multiples, plain, tally};
 use systems::System;
 
 // A system and its model after the same calls, and the comparisons.
-#[derive(Drop)]
+#[derive(Clone, Copy)]
 struct State {
     system: System,
     held: Held,

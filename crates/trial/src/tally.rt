@@ -1,9 +1,9 @@
 // How many comparisons of each kind there were, and how many differed.
-use libc::STDOUT_FILENO;
+use std::io;
 use std::num::wrapping_add_u64;
 
 // The number of comparisons of each kind, and after it the number of differences.
-#[derive(Drop)]
+#[derive(Clone, Copy)]
 pub(crate) struct Tally {
     pub(crate) counts: [u64; PLACES],
 }
@@ -100,17 +100,17 @@ impl Tally {
     }
 
     // Prints a byte of the form: the number at a place for #. The place after it.
-    fn put(self, b: u8, place: usize) -> usize {
+    fn put(self, rt: &impl Print, b: u8, place: usize) -> io::Result<usize> {
         if b == b'#' {
-            io::print_decimal(STDOUT_FILENO, self.counts[place % PLACES]);
-            return place % PLACES + 1;
+            rt.print(self.counts[place % PLACES])?;
+            return Ok(place % PLACES + 1);
         }
-        io::write_all(STDOUT_FILENO, &[b]);
-        place
+        rt.write_all(&[b])?;
+        Ok(place)
     }
 
     // Prints the form, with the next number of the table at each #.
-    pub(crate) fn print(self) {
+    pub(crate) fn print(self, rt: &impl Print) -> io::Result<()> {
         let form: &[u8] = b"polynomials: #
 residues: #
 test of a residue: # compared, # differ
@@ -147,8 +147,9 @@ differences in all: #
         let mut place: usize = 0;
         let mut i: usize = 0;
         while i < form.len() {
-            place = self.put(form[i], place);
+            place = self.put(rt, form[i], place)?;
             i += 1;
         }
+        Ok(())
     }
 }
