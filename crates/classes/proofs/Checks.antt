@@ -1,4 +1,5 @@
 -- What the answer of a checked list says, and the answer from the facts that the rules test.
+use Rattle.std.specs.Prelude.{Ok, Err}
 use mathlib.Core.Path.{◌≡◌, sym, ap, ◌∙◌}
 use mathlib.Core.Bool.{Bool, true, false, not, ◌&&◌}
 use mathlib.Core.List.{List, [], ◌∷◌, ◌++◌}
@@ -14,12 +15,11 @@ use Rattle.theory.proofs.Tests.{and_left, and_right}
 use Rattle.theory.proofs.Range.{before_least}
 use Rattle.refusal.specs.declared.Refusal.{Refusal}
 use Rattle.refusal.specs.declared.Refusal.TheVariants.{Lengths, Entry}
-use Rattle.refusal.specs.Rules.{Verdict, passes, refuses, tried, rule6, rule6_three}
-use Rattle.refusal.proofs.Rules.{rule6_refuses, rule6_passes, rule_passes, tried-first, tried-both, tried_leads, tried_refuses}
-use Rattle.numbers.specs.declared.Modulus.TheVariants.{Accepted, Refused}
-use Rattle.numbers.specs.Modulus.{modulus_rules, power_or, modulus_of}
+use Rattle.refusal.specs.Rules.{Verdict, passes, refuses, tried, rule6, rule6_three, value_or}
+use Rattle.refusal.proofs.Rules.{rule6_refuses, rule6_passes, rule_passes, tried-first, tried-both, tried_leads, tried_refuses, value_passes, value_refuses}
+use Rattle.numbers.specs.Modulus.{modulus_rules, modulus_of}
 use Rattle.numbers.specs.inner.Usable.{Usable}
-use Rattle.numbers.proofs.Rules.{accepted_means, refused_means, passes-usable, refused-leads, usable_leaves}
+use Rattle.numbers.proofs.Rules.{passes-usable, refused-leads, usable_leaves}
 use Rattle.classes.specs.Rule7.{classes_of, fault_at, first_fault, rule7}
 use Rattle.classes.specs.Checked.{given_rules, checked_of}
 use Rattle.classes.specs.inner.Usable.{Faultless, UsableList}
@@ -65,10 +65,10 @@ module _ (p n : ℕ) (residues : List ℤ) (levels : List ℕ) where
   own = rule6 (length residues) (length levels) ∷ rule7 p n (classes_of residues levels) ∷ []
 
   -- what an accepted list has
-  pub checked-accepted : (m : ℕ) → checked_of p n residues levels ≡ Accepted m → UsableList p n residues levels m
+  pub checked-accepted : (m : ℕ) → checked_of p n residues levels ≡ Ok m → UsableList p n residues levels m
   unfolding checked_of
   checked-accepted m e =
-      let both = accepted_means (tried (given_rules p n residues levels)) (p ^ n) m e in
+      let both = value_passes (tried (given_rules p n residues levels)) (p ^ n) m e in
       let parts = tried-both (modulus_rules p n) own both.0 in
       let own-parts = tried-first (rule6 (length residues) (length levels)) (rule7 p n L ∷ []) parts.1 in
       let U = passes-usable p n parts.0 m both.1 in
@@ -89,11 +89,11 @@ module _ (p n : ℕ) (residues : List ℤ) (levels : List ℕ) where
       }
 
   -- a refusal is that of any longer list of rules that begins with these
-  pub checked_refused : (r : Refusal) → checked_of p n residues levels ≡ Refused r → (rest : List Verdict)
+  pub checked_refused : (r : Refusal) → checked_of p n residues levels ≡ Err r → (rest : List Verdict)
       → tried (given_rules p n residues levels ++ rest) ≡ refuses r
   unfolding checked_of
   checked_refused r e rest =
-      tried_refuses (given_rules p n residues levels) rest r (refused_means (tried (given_rules p n residues levels)) (p ^ n) r e)
+      tried_refuses (given_rules p n residues levels) rest r (value_refuses (tried (given_rules p n residues levels)) (p ^ n) r e)
 
   -- and where they accept, the others decide
   pub checked-leads : {m : ℕ} → UsableList p n residues levels m → (rest : List Verdict)
@@ -101,31 +101,31 @@ module _ (p n : ℕ) (residues : List ℤ) (levels : List ℕ) where
   checked-leads C rest = tried_leads (given_rules p n residues levels) rest C.accepted
 
   -- a refusal by the rules on p and n
-  pub checked-modulus : (r : Refusal) → modulus_of p n ≡ Refused r → checked_of p n residues levels ≡ Refused r
+  pub checked-modulus : (r : Refusal) → modulus_of p n ≡ Err r → checked_of p n residues levels ≡ Err r
   unfolding checked_of
-  checked-modulus r e = ap (λ v. power_or v (p ^ n)) (refused-leads p n r e own)
+  checked-modulus r e = ap (λ v. value_or v (p ^ n)) (refused-leads p n r e own)
 
   -- the answer from the facts that the rules test
   module _ {m : ℕ} (U : Usable p n m) where
     -- by rule 6
     pub checked-6 : (length residues ≡ length levels → ⊥)
-        → checked_of p n residues levels ≡ Refused (Lengths (min (length residues) (length levels)))
+        → checked_of p n residues levels ≡ Err (Lengths (min (length residues) (length levels)))
     unfolding checked_of
     checked-6 h = usable_leaves U own ∙ rw (rule6_refuses (length residues) (length levels) h)
 
     module _ (same : length residues ≡ length levels) (i : ℕ) (e : i ≡ first_fault p n L) where
       -- by rule 7
-      pub checked-7 : i < length residues → checked_of p n residues levels ≡ Refused (Entry i)
+      pub checked-7 : i < length residues → checked_of p n residues levels ≡ Err (Entry i)
       unfolding checked_of
       checked-7 h =
           usable_leaves U own
           ∙ rw (
             rule6_passes (length residues) (length levels) same,
             rule7_refuses p n L (omega (arith, classes_same_length residues levels same)),
-          ) (ap (λ (k : ℕ). Refused (Entry k)) (sym e))
+          ) (ap (λ (k : ℕ). Err (Entry k)) (sym e))
 
       -- by none
-      pub checked-passes : length residues ≤ i → checked_of p n residues levels ≡ Accepted m
+      pub checked-passes : length residues ≤ i → checked_of p n residues levels ≡ Ok m
       unfolding checked_of
       checked-passes h =
           usable_leaves U own

@@ -1,4 +1,5 @@
 -- Rule 7 and next on short lists with residues of least size (02, 2.7).
+use Rattle.std.specs.Prelude.{Ok, Some}
 use mathlib.Core.Path.{◌≡◌, refl}
 use mathlib.Core.List.{[], ◌∷◌}
 use lib.IntN.{pos, negsuc}
@@ -6,7 +7,6 @@ use Rattle.theory.specs.SignedClass.{signed_class}
 use Rattle.theory.specs.Prime.{is_composite}
 use Rattle.refusal.specs.declared.Refusal.TheVariants.{Entry}
 use Rattle.refusal.specs.Rules.{passes, refuses}
-use Rattle.classes.specs.declared.next.Next.TheVariants.{Root}
 use Rattle.classes.specs.Rule7.{rule7}
 use Rattle.classes.specs.Next.{next_of}
 
@@ -35,8 +35,8 @@ unfolding rule7
 natural_order = refl
 
 -- next on −1/3, 1/3: the roots of x² − 1 modulo 16
-pub next_of-first : (next_of 2 4 (negsuc 0 ∷ pos 1 ∷ []) (3 ∷ 3 ∷ []) 0 ≡ Root 1)
-    × (next_of 2 4 (negsuc 0 ∷ pos 1 ∷ []) (3 ∷ 3 ∷ []) 2 ≡ Root 7)
-    × (next_of 2 4 (negsuc 0 ∷ pos 1 ∷ []) (3 ∷ 3 ∷ []) 10 ≡ Root 15)
+pub next_of-first : (next_of 2 4 (negsuc 0 ∷ pos 1 ∷ []) (3 ∷ 3 ∷ []) 0 ≡ Ok (Some 1))
+    × (next_of 2 4 (negsuc 0 ∷ pos 1 ∷ []) (3 ∷ 3 ∷ []) 2 ≡ Ok (Some 7))
+    × (next_of 2 4 (negsuc 0 ∷ pos 1 ∷ []) (3 ∷ 3 ∷ []) 10 ≡ Ok (Some 15))
 unfolding next_of is_composite
 next_of-first = (refl, refl, refl)

@@ -1,4 +1,5 @@
 -- The converse of rule 7: a list that has what the rule asks passes it, and the list of largest whole classes is one.
+use Rattle.std.specs.Prelude.{Ok}
 use mathlib.Core.Path.{◌≡◌, refl, sym, ap}
 use mathlib.Core.Bool.{Bool, true, false, not}
 use mathlib.Core.List.{List}
@@ -22,7 +23,6 @@ use Rattle.theory.proofs.Signed.Entries.{list-class}
 use Rattle.theory.proofs.Signed.Demand.{signed-disjoint}
 use Rattle.theory.proofs.Range.{none_passes}
 use Rattle.theory.proofs.Least.{least_is}
-use Rattle.numbers.specs.declared.Modulus.TheVariants.{Accepted}
 use Rattle.numbers.specs.inner.Usable.{Usable}
 use Rattle.classes.specs.Rule7.{classes_of, level_above, residue_outside, not_above, shared_earlier, fault_at, first_fault}
 use Rattle.classes.specs.Checked.{checked_of}
@@ -92,7 +92,7 @@ module _ (S : ℕ → Bool) (p n : ℕ) (two : 2 ≤ p) where
 
 -- the residues and levels of the list are accepted
 pub list_accepted : (S : ℕ → Bool) (p n m : ℕ) → Usable p n m
-    → checked_of p n (residues_of (signed_list S p n)) (levels_of (signed_list S p n)) ≡ Accepted m
+    → checked_of p n (residues_of (signed_list S p n)) (levels_of (signed_list S p n)) ≡ Ok m
 list_accepted S p n m U =
     let L = signed_list S p n in
     let residues = residues_of L in

@@ -1,59 +1,76 @@
--- Looking a class up by bisection on the residues, which rise.
+-- Looking a class up by a binary search of the residues, which rise.
 use mathlib.Core.Path.{◌≡◌, sym, ap, ◌∙◌}
-use mathlib.Core.Bool.{true, false}
+use mathlib.Core.Bool.{true}
 use mathlib.Core.List.{List}
-use Prim.Native.Nat.{ℕ, ◌+◌, ◌≤◌, ◌<◌}
-use native.Mathlib.Decide.{ℕ_discrete, dec_lt}
+use Prim.Native.Nat.{ℕ, ◌≤◌, ◌<◌}
+use native.Mathlib.Decide.{dec_lt}
 use native.Mathlib.Omega.{arith}
+use Rattle.std.proofs.Common.{Ordering, Less, Equal, Greater}
 use lib.IntN.{ℤ, pos}
 use lib.ListN.{length, get_or}
-use lib.Signed.{lt_z, le_z}
+use lib.Signed.{◌<ℤ◌, ◌≤ℤ◌}
+use Rattle.std.specs.Ordering.{MatchOrdering, int_cmp, ordering_index}
+use Rattle.std.specs.Cmp.{int_ranks, int_ranked}
+use Rattle.std.specs.List.Sorted.{IsNonDecreasingBy, IsPartitionPoint}
+use Rattle.std.proofs.lemmas.Int.{ints}
+use Rattle.std.proofs.lemmas.List.Sorted.{IsNonDecreasingBy-from_default}
 use Rattle.theory.specs.SignedClass.{SignedClass, signed_class, signed_slot}
-use Rattle.theory.proofs.Tests.{contradiction, not_holding}
-use Rattle.theory.proofs.Range.{before_least, least_found}
+use Rattle.theory.proofs.Tests.{not_holding}
 use Rattle.theory.proofs.Least.{least_is}
-use Rattle.theory.proofs.Numbers.Integers.{up, down, less-is, is-less, not-less-is, at-most-is, is-at-most, is-not-at-most}
+use Rattle.theory.proofs.Numbers.Integers.{up, down, less-is}
 use Rattle.classes.specs.Rule7.{classes_of}
-use Rattle.classes.specs.inner.Search.{same_class, RisingTo, first_not_below, index_of}
+use Rattle.classes.specs.inner.Search.{same_class, RisingTo, index_of}
 use Rattle.classes.proofs.Entries.{classes_slot}
 use Rattle.classes.proofs.Sharing.{same_equal, equal_same}
 
--- Bisection
+-- The search for a number
 
-module _ (l : List ℤ) (m : ℕ) (R : RisingTo l m) (x : ℤ) (middle : ℕ) (h : middle < m) where
-  abbrev at : ℕ → ℤ
-  at k = get_or l k (pos 0)
+-- comparisons with x rise with the numbers
+higher : (a b x : ℤ) → a ≤ℤ b → ordering_index (int_cmp a x) ≤ ordering_index (int_cmp b x)
+higher a b x h = go (int_cmp a x) (int_cmp b x) (int_ranks a x) (int_ranks b x)
+  where
+    go : (r s : Ordering) → MatchOrdering r (a <ℤ x) (a ≡ x) (x <ℤ a) → MatchOrdering s (b <ℤ x) (b ≡ x) (x <ℤ b)
+        → ordering_index r ≤ ordering_index s
+    go Less s u v = omega arith
+    go Equal Less u v = absurd (omega (arith, ints))
+    go Equal Equal u v = omega arith
+    go Equal Greater u v = omega arith
+    go Greater Less u v = absurd (omega (arith, ints))
+    go Greater Equal u v = absurd (omega (arith, ints))
+    go Greater Greater u v = omega arith
 
-  -- what is not above the middle is below x
-  pub lower-half : lt_z (get_or l middle (pos 0)) x ≡ true → (k : ℕ) → k < middle + 1 → lt_z (get_or l k (pos 0)) x ≡ true
-  lower-half b k u = go (ℕ_discrete k middle)
+module _ (l : List ℤ) (R : RisingTo l (length l)) (x : ℤ) where
+  comparisons_rise : IsNonDecreasingBy (λ y. ordering_index (int_cmp y x)) l
+  comparisons_rise =
+      IsNonDecreasingBy-from_default (λ y. ordering_index (int_cmp y x)) l (pos 0) (λ i j le lt.
+      higher (get_or l i (pos 0)) (get_or l j (pos 0)) x (rising i j le lt))
     where
-      go : Dec (k ≡ middle) → lt_z (get_or l k (pos 0)) x ≡ true
-      go (yes e) = rw e b
-      go (no e) =
-          is-less (at k) x (omega (arith, less-is (at k) (at middle) (R.rises k middle (omega arith) h), less-is (at middle) x b))
+      rising : (i j : ℕ) → i ≤ j → j < length l → get_or l i (pos 0) ≤ℤ get_or l j (pos 0)
+      rising i j le lt = go (dec_lt i j)
+        where
+          go : Dec (i < j) → get_or l i (pos 0) ≤ℤ get_or l j (pos 0)
+          go (yes u) = let r = R.rises i j u lt in grind (arith, ints)
+          go (no u) = let e : i ≡ j = omega arith in rw e (omega (arith, ints))
 
-  -- what is not below the middle is not below x
-  pub upper-half : lt_z (get_or l middle (pos 0)) x ≡ false → (k : ℕ) → middle ≤ k → k < m → le_z x (get_or l k (pos 0)) ≡ true
-  upper-half b k low u = go (ℕ_discrete k middle)
+  -- where the search ends between two numbers, none is x
+  pub searched_absent : (i : ℕ)
+      → (IsNonDecreasingBy (λ y. ordering_index (int_cmp y x)) l
+      → IsPartitionPoint (λ y. int_cmp y x ≡ Less) (λ y. int_cmp y x ≡ Greater) l i)
+      → (k : ℕ) → k < length l → get_or l k (pos 0) ≡ x → ⊥
+  searched_absent i parted k h e = go (dec_lt k i)
     where
-      go : Dec (k ≡ middle) → le_z x (get_or l k (pos 0)) ≡ true
-      go (yes e) = rw e (is-at-most x (at middle) (not-less-is (at middle) x b))
-      go (no e) =
-          is-at-most x (at k) (omega (arith, not-less-is (at middle) x b, less-is (at middle) (at k) (R.rises middle k (omega arith) u)))
+      parts : IsPartitionPoint (λ y. int_cmp y x ≡ Less) (λ y. int_cmp y x ≡ Greater) l i
+      parts = parted comparisons_rise
 
--- the index from what stands before and after it
-pub not_below_is : (l : List ℤ) (m : ℕ) (x : ℤ) (j : ℕ) → j ≤ m → ((k : ℕ) → k < j → lt_z (get_or l k (pos 0)) x ≡ true)
-    → ((k : ℕ) → j ≤ k → k < m → le_z x (get_or l k (pos 0)) ≡ true) → first_not_below l m x ≡ j
-unfolding first_not_below
-not_below_is l m x j h below above =
-    least_is (λ k. le_z x (get_or l k (pos 0))) m 0 j (omega arith) (omega arith)
-    (λ k low u. is-not-at-most x (get_or l k (pos 0)) (less-is (get_or l k (pos 0)) x (below k u))) (λ u. above j (omega arith) (omega arith))
+      go : Dec (k < i) → ⊥
+      go (yes u) =
+          let b : get_or l k (pos 0) <ℤ x = int_ranked _ _ Less (sym (parts.0 k (pos 0) (omega arith) u)) in omega (arith, ints)
+      go (no u) =
+          let b : x <ℤ get_or l k (pos 0) = int_ranked _ _ Greater (sym (parts.1 k (pos 0) (omega arith) h)) in omega (arith, ints)
 
 -- One class
 
-module _ (residues : List ℤ) (levels : List ℕ) (m : ℕ) (hr : m ≤ length residues) (hl : m ≤ length levels) (R : RisingTo residues m)
-    (a : ℤ) (t : ℕ) (j : ℕ) (j-is : j ≡ first_not_below residues m a) where
+module _ (residues : List ℤ) (levels : List ℕ) (m : ℕ) (hr : m ≤ length residues) (hl : m ≤ length levels) (a : ℤ) (t : ℕ) where
   abbrev L : List SignedClass
   L = classes_of residues levels
 
@@ -66,61 +83,40 @@ module _ (residues : List ℤ) (levels : List ℕ) (m : ℕ) (hr : m ≤ length 
   entry : (k : ℕ) → k < m → signed_slot L k ≡ signed_class (residue k) (get_or levels k 0)
   entry k h = classes_slot residues levels k (omega arith) (omega arith)
 
-  before : (k : ℕ) → k < j → le_z a (residue k) ≡ false
-  unfolding first_not_below
-  before k h = before_least (λ i. le_z a (residue i)) m 0 k (omega arith) (omega (arith, j-is))
+  same : (k : ℕ) → k < m → same_class (signed_slot L k) c ≡ true → signed_class (residue k) (get_or levels k 0) ≡ c
+  same k h e = sym (entry k h) ∙ same_equal (signed_slot L k) c e
 
-  at-index : j < m → le_z a (residue j) ≡ true
-  unfolding first_not_below
-  at-index h = rw j-is (least_found (λ i. le_z a (residue i)) m 0 (omega (arith, j-is)))
-
-  -- an entry that is the class stands at the index
-  only-index : (k : ℕ) → k < m → same_class (signed_slot L k) c ≡ true → k ≡ j
-  only-index k h e = go (dec_lt k j) (dec_lt j k)
-    where
-      same : residue k ≡ a
-      same = λ i. ((sym (entry k h) ∙ same_equal (signed_slot L k) c e) i).residue
-
-      go : Dec (k < j) → Dec (j < k) → k ≡ j
-      go (yes l) w = absurd (contradiction (is-at-most a (residue k) (omega (arith, ap up same, ap down same))) (before k l))
-      go (no l) (yes u) =
-          absurd (omega (
-            arith,
-            at-most-is a (residue j) (at-index (omega arith)),
-            less-is (residue j) (residue k) (R.rises j k u h),
-            ap up same,
-            ap down same,
-          ))
-      go (no l) (no u) = omega arith
-
-  nowhere : ((k : ℕ) → k < m → same_class (signed_slot L k) c ≡ false) → index_of L m c ≡ m
+  nowhere : ((k : ℕ) → k < m → same_class (signed_slot L k) c ≡ true → ⊥) → index_of L m c ≡ m
   unfolding index_of
   nowhere h =
-      least_is (λ k. same_class (signed_slot L k) c) m 0 m (omega arith) (omega arith) (λ k low u. h k u) (λ u. absurd (omega arith))
+      least_is (λ k. same_class (signed_slot L k) c) m 0 m (omega arith) (omega arith)
+      (λ k low u. not_holding (same_class (signed_slot L k) c) (h k u)) (λ u. absurd (omega arith))
 
-  -- the index is past the first m entries
-  pub index-past : m ≤ j → m ≡ index_of (classes_of residues levels) m (signed_class a t)
-  index-past h = sym (nowhere (λ k l. not_holding (same_class (signed_slot L k) c) (λ s. omega (arith, only-index k l s))))
+  -- no entry has the residue
+  pub index_absent : ((k : ℕ) → k < m → get_or residues k (pos 0) ≡ a → ⊥) → index_of (classes_of residues levels) m (signed_class a t) ≡ m
+  index_absent none = nowhere (λ k h e. none k h (λ i. (same k h e i).residue))
 
-  module _ (h : j < m) where
-    other : (signed_slot L j ≡ c → ⊥) → m ≡ index_of L m c
-    other ne =
-        sym (nowhere (λ k l. not_holding (same_class (signed_slot L k) c) (λ s.
-        ne (same_equal (signed_slot L j) c (rw (only-index k l s) at s)))))
+  -- entry j has it
+  module _ (R : RisingTo residues m) (j : ℕ) (h : j < m) (ea : residue j ≡ a) where
+    only : (k : ℕ) → k < m → same_class (signed_slot L k) c ≡ true → k ≡ j
+    only k l e = go (dec_lt k j) (dec_lt j k)
+      where
+        equal : residue k ≡ residue j
+        equal = (λ i. (same k l e i).residue) ∙ sym ea
 
-    -- another residue stands there
-    pub index-residue : (get_or residues j (pos 0) ≡ a → ⊥) → m ≡ index_of (classes_of residues levels) m (signed_class a t)
-    index-residue ne = other (λ e. ne (λ i. ((sym (entry j h) ∙ e) i).residue))
+        go : Dec (k < j) → Dec (j < k) → k ≡ j
+        go (yes u) v = absurd (omega (arith, less-is (residue k) (residue j) (R.rises k j u h), ap up equal, ap down equal))
+        go (no u) (yes v) = absurd (omega (arith, less-is (residue j) (residue k) (R.rises j k v l), ap up equal, ap down equal))
+        go (no u) (no v) = omega arith
 
-    -- or another level
-    pub index-level : (get_or levels j 0 ≡ t → ⊥) → m ≡ index_of (classes_of residues levels) m (signed_class a t)
-    index-level ne = other (λ e. ne (λ i. ((sym (entry j h) ∙ e) i).level))
+    -- with another level
+    pub index_other : (get_or levels j 0 ≡ t → ⊥) → index_of (classes_of residues levels) m (signed_class a t) ≡ m
+    index_other ne = nowhere (λ k l e. ne (rw (only k l e) at (ap (λ (d : SignedClass). d.level) (same k l e))))
 
-    -- or the class
-    pub index-here : get_or residues j (pos 0) ≡ a → get_or levels j 0 ≡ t → j ≡ index_of (classes_of residues levels) m (signed_class a t)
+    -- or with this
+    pub index_here : get_or levels j 0 ≡ t → index_of (classes_of residues levels) m (signed_class a t) ≡ j
     unfolding index_of
-    index-here ea et =
-        let e : signed_slot L j ≡ c = entry j h ∙ (λ i. signed_class (ea i) (et i)) in
-        sym (least_is (λ k. same_class (signed_slot L k) c) m 0 j (omega arith) (omega arith)
-        (λ k low u. not_holding (same_class (signed_slot L k) c) (λ s. omega (arith, only-index k (omega arith) s)))
-        (λ u. equal_same (signed_slot L j) c e))
+    index_here et =
+        least_is (λ k. same_class (signed_slot L k) c) m 0 j (omega arith) (omega arith)
+        (λ k low u. not_holding (same_class (signed_slot L k) c) (λ s. omega (arith, only k (omega arith) s)))
+        (λ u. equal_same (signed_slot L j) c (entry j h ∙ (λ i. signed_class (ea i) (et i))))

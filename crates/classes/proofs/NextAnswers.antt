@@ -1,4 +1,5 @@
 -- The answers of next, from what was tested.
+use Rattle.std.specs.Prelude.{Ok, Err, None, Some}
 use mathlib.Core.Path.{◌≡◌, refl, sym, ap, ◌∙◌}
 use mathlib.Core.Bool.{Bool}
 use mathlib.Core.List.{List, [], ◌∷◌}
@@ -15,14 +16,12 @@ use Rattle.theory.specs.Stepping.{first_of, next_in}
 use Rattle.theory.proofs.Range.{before_least, passing_none}
 use Rattle.refusal.specs.declared.Refusal.{Refusal}
 use Rattle.refusal.specs.declared.Refusal.TheVariants.{Point}
-use Rattle.refusal.specs.Rules.{passes, refuses, rule8}
+use Rattle.refusal.specs.Rules.{passes, refuses, rule8, value_or}
 use Rattle.refusal.proofs.Rules.{rule8_refuses, rule8_passes}
-use Rattle.numbers.specs.declared.Modulus.TheVariants.{Refused as NotAccepted}
 use Rattle.numbers.specs.inner.Usable.{Usable}
-use Rattle.classes.specs.declared.next.Next.TheVariants.{Root, None, Refused}
 use Rattle.classes.specs.Rule7.{classes_of}
 use Rattle.classes.specs.Checked.{checked_of}
-use Rattle.classes.specs.Next.{next_verdict, next_or, next_of, answer_of}
+use Rattle.classes.specs.Next.{next_verdict, first, next_of, answer_of}
 use Rattle.classes.proofs.Entries.{classes_of_parts}
 use Rattle.classes.specs.inner.Usable.{UsableList}
 use Rattle.classes.proofs.Checks.{checked-accepted, checked_refused, checked-leads}
@@ -31,14 +30,14 @@ use Rattle.theory.proofs.Least.{passing-first}
 
 module _ (p n : ℕ) (residues : List ℤ) (levels : List ℕ) (point : ℕ) where
   -- the list is refused
-  pub next-refused : (r : Refusal) → checked_of p n residues levels ≡ NotAccepted r → next_of p n residues levels point ≡ Refused r
+  pub next-refused : (r : Refusal) → checked_of p n residues levels ≡ Err r → next_of p n residues levels point ≡ Err r
   unfolding next_of next_verdict
   next-refused r e = rw (checked_refused p n residues levels r e (rule8 point (p ^ n) ∷ []))
 
   module _ (m : ℕ) (C : UsableList p n residues levels m) where
     -- 01's least member from the point on, and pⁿ where there is none
-    abbrev first : ℕ
-    first = least (members p (naturals p (classes_of residues levels))) (m - point) point
+    abbrev least_member : ℕ
+    least_member = least (members p (naturals p (classes_of residues levels))) (m - point) point
 
     verdict-past : p ^ n ≤ point → next_verdict p n residues levels point ≡ refuses Point
     unfolding next_verdict
@@ -51,12 +50,12 @@ module _ (p n : ℕ) (residues : List ℤ) (levels : List ℕ) (point : ℕ) whe
         checked-leads p n residues levels C (rule8 point (p ^ n) ∷ []) ∙ rw (rule8_passes point (p ^ n) h)
 
     -- rule 8
-    pub next_past : m ≤ point → next_of p n residues levels point ≡ Refused Point
+    pub next_past : m ≤ point → next_of p n residues levels point ≡ Err Point
     unfolding next_of
     next_past h = rw (verdict-past (omega (arith, C.modulus.power)))
 
     -- no member is left
-    pub next-none : point < m → (r : ℕ) → r ≡ first → m ≤ r → next_of p n residues levels point ≡ None
+    pub next-none : point < m → (r : ℕ) → r ≡ least_member → m ≤ r → next_of p n residues levels point ≡ Ok None
     unfolding next_of from
     next-none h r q l =
         let e : p ^ n ≡ m = sym C.modulus.power in
@@ -66,16 +65,16 @@ module _ (p n : ℕ) (residues : List ℤ) (levels : List ℕ) (point : ℕ) whe
         rw (verdict-passes (omega arith), empty)
 
     -- the first of those left
-    pub next-found : point < m → (r : ℕ) → r ≡ first → r < m → next_of p n residues levels point ≡ Root r
+    pub next-found : point < m → (r : ℕ) → r ≡ least_member → r < m → next_of p n residues levels point ≡ Ok (Some r)
     unfolding next_of from
     next-found h r q l = go (passing-first (members p (naturals p (classes_of residues levels))) (m - point) point (omega arith))
       where
-        go : (rest : List ℕ) × (passing (members p (naturals p (classes_of residues levels))) (m - point) point ≡ first ∷ rest)
-            → next_of p n residues levels point ≡ Root r
+        go : (rest : List ℕ) × (passing (members p (naturals p (classes_of residues levels))) (m - point) point ≡ least_member ∷ rest)
+            → next_of p n residues levels point ≡ Ok (Some r)
         go (rest, w) =
             let e : p ^ n ≡ m = sym C.modulus.power in
-            let starts : passing (members p (naturals p (classes_of residues levels))) (p ^ n - point) point ≡ first ∷ rest = rw e w in
-            rw (verdict-passes (omega arith), starts) (ap (λ (x : ℕ). Root x) (sym q))
+            let starts : passing (members p (naturals p (classes_of residues levels))) (p ^ n - point) point ≡ least_member ∷ rest = rw e w in
+            rw (verdict-passes (omega arith), starts) (ap (λ (x : ℕ). Ok (Some x)) (sym q))
 
   -- on an accepted list next answers as the theory's `next_in`
   pub next-answers : (m : ℕ) → UsableList p n residues levels m
@@ -83,7 +82,7 @@ module _ (p n : ℕ) (residues : List ℤ) (levels : List ℕ) (point : ℕ) whe
   unfolding next_of next_in
   next-answers m C = go (dec_lt point (p ^ n))
     where
-      first-of : (rs : List ℕ) → answer_of (next_or passes rs) ≡ first_of rs
+      first-of : (rs : List ℕ) → answer_of (value_or passes (first rs)) ≡ first_of rs
       first-of [] = refl
       first-of (r ∷ rs) = refl
 

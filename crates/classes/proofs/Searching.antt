@@ -1,23 +1,27 @@
 -- The search finds the first fault: within the first m entries, which have no fault of their own, every overlap is a fault at the later of
 -- two entries, and the first entry that shares a member with an earlier one is among them.
-use mathlib.Core.Path.{◌≡◌, refl, ap}
+use mathlib.Core.Path.{◌≡◌, refl, sym, ap, ap₂, ◌∙◌}
 use mathlib.Core.Logic.{◌⊎◌, inl, inr}
 use mathlib.Core.Bool.{true}
 use mathlib.Core.List.{List}
-use Prim.Native.Nat.{ℕ, zero, suc, ◌≤◌, ◌<◌, min, max}
-use native.Mathlib.Nat.{eq-or-lt_of_le}
+use Prim.Native.Nat.{ℕ, zero, suc, ◌+◌, ◌≤◌, ◌<◌, min, max}
+use native.Mathlib.Nat.{eq-or-lt_of_le, min_comm}
+use native.Mathlib.Numerals.{add-one}
 use native.Mathlib.Decide.{dec_lt}
 use native.Mathlib.Omega.{arith}
-use lib.ListN.{length}
+use lib.IntN.{ℤ, pos}
+use lib.ListN.{length, take}
+use Rattle.std.proofs.lemmas.List.{length-take-le, get_or-take}
 use Rattle.theory.specs.Range.{least}
 use Rattle.theory.specs.Class.{share}
-use Rattle.theory.specs.SignedClass.{SignedClass, natural, signed_slot}
-use Rattle.theory.proofs.Range.{some_passes, some_found, least_passes, least_found}
+use Rattle.theory.specs.SignedClass.{SignedClass, signed_class, natural, signed_slot}
+use Rattle.theory.proofs.Range.{some_passes, some_found, least_passes, least_found, least_agree}
 use Rattle.theory.proofs.Least.{least_or}
 use Rattle.theory.proofs.Numbers.Integers.{up, down, less-is}
 use Rattle.theory.proofs.Classes.Share.{share_comm}
-use Rattle.classes.specs.Rule7.{shared_earlier, fault_at, first_fault}
+use Rattle.classes.specs.Rule7.{classes_of, shared_earlier, fault_at, first_fault}
 use Rattle.classes.specs.inner.Search.{unusable_at, usable_to, same_class, index_of, around, overlap, least_value, searched_to}
+use Rattle.classes.proofs.Entries.{classes_slot}
 use Rattle.classes.proofs.Sharing.{same_equal, equal_same, shared-around, shared-equal, around-shares}
 use Rattle.classes.proofs.Usables.{usable-class, usable-fits, usable-before, usable-rises}
 
@@ -46,9 +50,15 @@ pub value_none : (f : ℕ → ℕ) (d : ℕ) → d ≡ least_value f 0 d
 unfolding least_value
 value_none f d = refl
 
-pub value_next : (f : ℕ → ℕ) (k d : ℕ) → min (f k) (least_value f k d) ≡ least_value f (suc k) d
+value_next : (f : ℕ → ℕ) (k d : ℕ) → min (least_value f k d) (f k) ≡ least_value f (k + 1) d
 unfolding least_value
-value_next f k d = refl
+value_next f k d = rw add-one (min_comm (least_value f k d) (f k))
+
+pub searched-start : (p : ℕ) (L : List SignedClass) (m k : ℕ) → searched_to p L m k ≤ m
+unfolding searched_to
+searched-start p L m zero = omega arith
+searched-start p L m (suc k) =
+    omega (arith, searched-start p L m k, value-start (overlap p L m k) (signed_slot L k).level (searched_to p L m k))
 
 level_of : (p : ℕ) (c d : SignedClass) (s : ℕ) → c ≡ around p d s → c.level ≡ s
 unfolding around
@@ -136,12 +146,6 @@ module _ (p n : ℕ) (L : List SignedClass) where
         value_bound (overlap p L m k) (signed_slot L k).level (searched_to p L m k) (min m first) (searched-sound k (omega arith))
         (λ s l. overlap-sound k s (omega arith) l)
 
-    searched-start : (k : ℕ) → searched_to p L m k ≤ m
-    unfolding searched_to
-    searched-start zero = omega arith
-    searched-start (suc k) =
-        omega (arith, searched-start k, value-start (overlap p L m k) (signed_slot L k).level (searched_to p L m k))
-
     searched-le : (k i s : ℕ) → i < k → s < (signed_slot L i).level → searched_to p L m k ≤ overlap p L m i s
     unfolding searched_to
     searched-le zero i s h l = absurd (omega arith)
@@ -206,14 +210,59 @@ module _ (p n : ℕ) (L : List SignedClass) where
 
         go : Dec (first < m) → searched_to p L m m ≡ first_fault p n L
         go (yes h) = rw fault-split (omega (arith, low, searched-complete h))
-        go (no h) = rw fault-split (omega (arith, low, searched-start m))
+        go (no h) = rw fault-split (omega (arith, low, searched-start p L m m))
 
--- one entry more, and none
+-- no entry, and one more
 pub searched_none : (p : ℕ) (L : List SignedClass) (m : ℕ) → m ≡ searched_to p L m 0
 unfolding searched_to
 searched_none p L m = refl
 
 pub searched_next : (p : ℕ) (L : List SignedClass) (m i : ℕ)
-    → least_value (overlap p L m i) (signed_slot L i).level (searched_to p L m i) ≡ searched_to p L m (suc i)
+    → least_value (overlap p L m i) (signed_slot L i).level (searched_to p L m i) ≡ searched_to p L m (i + 1)
 unfolding searched_to
-searched_next p L m i = refl
+searched_next p L m i = rw add-one
+
+-- the search reads only the first m entries
+searched_agree : (p : ℕ) (K L : List SignedClass) (m : ℕ) → ((i : ℕ) → i < m → signed_slot K i ≡ signed_slot L i)
+    → (k : ℕ) → k ≤ m → searched_to p K m k ≡ searched_to p L m k
+unfolding searched_to overlap index_of
+searched_agree p K L m agree zero h = refl
+searched_agree p K L m agree (suc k) h = go (searched_agree p K L m agree k (omega arith))
+  where
+    found : (c : SignedClass) → index_of K m c ≡ index_of L m c
+    found c =
+        least_agree (λ j. same_class (signed_slot K j) c) (λ j. same_class (signed_slot L j) c) m 0
+        (λ x low u. ap (λ (d : SignedClass). same_class d c) (agree x (omega arith)))
+
+    same : (s : ℕ) → overlap p K m k s ≡ overlap p L m k s
+    same s =
+        ap (λ (d : SignedClass). max k (index_of K m (around p d s))) (agree k (omega arith))
+        ∙ ap (max k) (found (around p (signed_slot L k) s))
+
+    go : searched_to p K m k ≡ searched_to p L m k → searched_to p K m (suc k) ≡ searched_to p L m (suc k)
+    go before = λ i. least_value (λ (s : ℕ). same s i) (agree k (omega arith) i).level (before i)
+
+-- so they may be a list of their own
+pub searched_front : (p : ℕ) (residues : List ℤ) (levels : List ℕ) (m : ℕ) → m ≤ length residues → length residues ≡ length levels
+    → searched_to p (classes_of (take m residues) (take m levels)) m m ≡ searched_to p (classes_of residues levels) m m
+searched_front p residues levels m h same =
+    searched_agree p (classes_of (take m residues) (take m levels)) (classes_of residues levels) m (λ i u.
+    classes_slot (take m residues) (take m levels) i (omega (arith, length-take-le m residues h))
+    (omega (arith, length-take-le m levels (omega arith)))
+    ∙ ap₂ signed_class (get_or-take m residues i (pos 0) u) (get_or-take m levels i 0 u)
+    ∙ sym (classes_slot residues levels i (omega arith) (omega arith))) m (omega arith)
+
+-- The overlap of entry i at level s, where the class c of that level around it is looked up
+module _ (p : ℕ) (L : List SignedClass) (m i s best : ℕ) (c : SignedClass) (c-is : c ≡ around p (signed_slot L i) s)
+    (so_far : ℕ) (before : so_far ≡ least_value (overlap p L m i) s best) where
+  -- c is entry j
+  pub overlap_found : (j : ℕ) → index_of L m c ≡ j → min so_far (max i j) ≡ least_value (overlap p L m i) (s + 1) best
+  unfolding overlap
+  overlap_found j e =
+      ap₂ min before (ap (max i) (sym e ∙ ap (index_of L m) c-is)) ∙ value_next (overlap p L m i) s best
+
+  -- c is no entry
+  pub overlap_none : best ≤ m → index_of L m c ≡ m → so_far ≡ least_value (overlap p L m i) (s + 1) best
+  overlap_none h e =
+      let low : so_far ≡ min so_far (max i m) = omega (arith, before, value-start (overlap p L m i) s best) in
+      low ∙ overlap_found m e

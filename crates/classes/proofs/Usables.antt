@@ -8,7 +8,8 @@ use native.Mathlib.Nat.{eq-or-lt_of_le}
 use native.Mathlib.Omega.{arith}
 use borrow.Author.Tests.{ltb-false, lt-ltb, le-ltb, not-false}
 use lib.IntN.{ℤ, pos}
-use lib.ListN.{length, get_or}
+use lib.ListN.{length, get_or, take}
+use Rattle.std.proofs.lemmas.List.{length-take-le, get_or-take}
 use lib.Signed.{lt_z, le_z}
 use Rattle.theory.specs.Centered.{is_centered}
 use Rattle.theory.specs.SignedClass.{SignedClass, signed_class, IsSignedClass, signed_slot}
@@ -154,4 +155,14 @@ usable_rising p n residues levels same =
       rises = λ j k l u.
           rw (classes_slot residues levels j (omega arith) (omega arith), classes_slot residues levels k (omega arith) (omega arith))
           at (usable-rises p n L j k l u);
+    }
+
+-- and so those of the list of these entries
+pub front_rising : (residues : List ℤ) (m : ℕ) → m ≤ length residues → RisingTo residues m
+    → RisingTo (take m residues) (length (take m residues))
+front_rising residues m h R =
+    let long = length-take-le m residues h in
+    record {
+      rises = λ j k l u.
+          rw (get_or-take m residues j (pos 0) (omega arith), get_or-take m residues k (pos 0) (omega arith)) (R.rises j k l (omega arith));
     }

@@ -1,4 +1,5 @@
 -- The rules on p and n: what an accepted pair has, and how these rules lead a longer list.
+use Rattle.std.specs.Prelude.{Ok, Err}
 use mathlib.Core.Path.{◌≡◌, refl, ap, ap₂, sym}
 use mathlib.Core.Bool.{Bool, true, false, ◌||◌}
 use mathlib.Core.List.{List, [], ◌∷◌, ◌++◌}
@@ -11,10 +12,9 @@ use Rattle.theory.proofs.Tests.{or_fails_left, or_fails_right}
 use Rattle.theory.proofs.Numbers.Prime.{not-composite-prime}
 use Rattle.refusal.specs.declared.Refusal.{Refusal}
 use Rattle.refusal.specs.declared.Refusal.TheVariants.{PrimeOutOfRange, Composite, Precision}
-use Rattle.refusal.specs.Rules.{Verdict, passes, refuses, tried}
-use Rattle.refusal.proofs.Rules.{tried_leads, tried_refuses, tried-first, rule_passes}
-use Rattle.numbers.specs.declared.Modulus.TheVariants.{Accepted, Refused}
-use Rattle.numbers.specs.Modulus.{rule4, rule14, rule5, modulus_rules, power_or, precision_of, modulus_of}
+use Rattle.refusal.specs.Rules.{Verdict, passes, refuses, tried, value_or}
+use Rattle.refusal.proofs.Rules.{tried_leads, tried_refuses, tried-first, rule_passes, value_passes, value_refuses}
+use Rattle.numbers.specs.Modulus.{rule4, rule14, rule5, modulus_rules, precision_of, modulus_of}
 use Rattle.numbers.specs.inner.Usable.{Usable}
 
 -- The tests of the rules
@@ -31,11 +31,11 @@ in_range_two p e = ltb-false p 2 (or_fails_left (ltb p 2) (ltb 65535 p) e)
 -- The answer for each of them
 
 module _ (p n : ℕ) where
-  pub modulus-4 : out_of_range p ≡ true → modulus_of p n ≡ Refused PrimeOutOfRange
+  pub modulus-4 : out_of_range p ≡ true → modulus_of p n ≡ Err PrimeOutOfRange
   unfolding modulus_of
   modulus-4 e = rw e
 
-  pub modulus-14 : out_of_range p ≡ false → is_composite p ≡ true → modulus_of p n ≡ Refused (Composite (least_divisor p))
+  pub modulus-14 : out_of_range p ≡ false → is_composite p ≡ true → modulus_of p n ≡ Err (Composite (least_divisor p))
   unfolding modulus_of
   modulus-14 e f = rw (e, f)
 
@@ -44,23 +44,13 @@ module _ (p n : ℕ) where
   unfolding modulus_of precision_of
   left-to-5 e f = rw (e, f)
 
-  pub precision-5 : not_precise p n ≡ true → precision_of p n ≡ Refused Precision
+  pub precision-5 : not_precise p n ≡ true → precision_of p n ≡ Err Precision
   unfolding precision_of
   precision-5 e = rw e
 
-  pub precision-passes : not_precise p n ≡ false → precision_of p n ≡ Accepted (p ^ n)
+  pub precision-passes : not_precise p n ≡ false → precision_of p n ≡ Ok (p ^ n)
   unfolding precision_of
   precision-passes e = rw e
-
--- What an answer says of the rules
-
-pub accepted_means : (v : Verdict) (x m : ℕ) → power_or v x ≡ Accepted m → (v ≡ passes) × (m ≡ x)
-accepted_means passes x m e = (refl, cc)
-accepted_means (refuses r) x m e = let z : ◌≡◌ {A = ℕ} 0 1 = cc in absurd (omega arith)
-
-pub refused_means : (v : Verdict) (x : ℕ) (r : Refusal) → power_or v x ≡ Refused r → v ≡ refuses r
-refused_means passes x r e = let z : ◌≡◌ {A = ℕ} 0 1 = cc in absurd (omega arith)
-refused_means (refuses s) x r e = ap refuses (cc)
 
 module _ (p n : ℕ) where
   -- p and n that the rules pass are usable
@@ -84,16 +74,16 @@ module _ (p n : ℕ) where
       positive : (n ≡ 0 → ⊥) → 0 < n
       positive h = omega arith
 
-  pub usable : (m : ℕ) → modulus_of p n ≡ Accepted m → Usable p n m
+  pub usable : (m : ℕ) → modulus_of p n ≡ Ok m → Usable p n m
   unfolding modulus_of
-  usable m e = let both = accepted_means (tried (modulus_rules p n)) (p ^ n) m e in passes-usable both.0 m both.1
+  usable m e = let both = value_passes (tried (modulus_rules p n)) (p ^ n) m e in passes-usable both.0 m both.1
 
-  pub modulus-refuses : (r : Refusal) → modulus_of p n ≡ Refused r → tried (modulus_rules p n) ≡ refuses r
+  pub modulus-refuses : (r : Refusal) → modulus_of p n ≡ Err r → tried (modulus_rules p n) ≡ refuses r
   unfolding modulus_of
-  modulus-refuses r e = refused_means (tried (modulus_rules p n)) (p ^ n) r e
+  modulus-refuses r e = value_refuses (tried (modulus_rules p n)) (p ^ n) r e
 
   -- a refusal is that of any longer list
-  pub refused-leads : (r : Refusal) → modulus_of p n ≡ Refused r → (rest : List Verdict) → tried (modulus_rules p n ++ rest) ≡ refuses r
+  pub refused-leads : (r : Refusal) → modulus_of p n ≡ Err r → (rest : List Verdict) → tried (modulus_rules p n ++ rest) ≡ refuses r
   refused-leads r e rest = tried_refuses (modulus_rules p n) rest r (modulus-refuses r e)
 
 -- where p and n pass, the rules after these decide
@@ -102,5 +92,5 @@ usable_leads {p} {n} U rest = tried_leads (modulus_rules p n) rest U.accepted
 
 -- and what these leave
 pub usable_leaves : {p n m : ℕ} → Usable p n m → (rest : List Verdict)
-    → power_or (tried (modulus_rules p n ++ rest)) (p ^ n) ≡ power_or (tried rest) m
-usable_leaves U rest = ap₂ power_or (usable_leads U rest) (sym U.power)
+    → value_or (tried (modulus_rules p n ++ rest)) (p ^ n) ≡ value_or (tried rest) m
+usable_leaves U rest = ap₂ value_or (usable_leads U rest) (sym U.power)

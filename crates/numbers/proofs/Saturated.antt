@@ -9,10 +9,6 @@ pub saturated-within : (x : ℕ) → x ≤ 4294967296 → saturated x ≡ x
 unfolding saturated
 saturated-within x h = omega arith
 
-pub saturated-over : (x : ℕ) → 4294967296 ≤ x → saturated x ≡ 4294967296
-unfolding saturated
-saturated-over x h = omega arith
-
 -- it is over the limit only where x is
 pub saturated_limit : (x : ℕ) → 4294967295 < saturated x → 4294967295 < x
 unfolding saturated

@@ -6,7 +6,7 @@ use native.Mathlib.Omega.{arith}
 use borrow.Author.Tests.{le-ltb}
 use lib.IntN.{ℤ, pos, negsuc, neg_ℤ, sub_ℕ, ◌-ℤ◌}
 use lib.Signed.{lt_z}
-use mir.Syntax.{Width, w32, w64}
+use mir.Syntax.{w32, w64}
 use mir.Val.{SFits, to_z, of_z}
 use mir.ValLaws.{to_z_pos, to_z-of_z}
 use Rattle.theory.specs.Centered.{is_centered}
@@ -60,10 +60,6 @@ module _ (a b : ℕ) (ha : a < 2 ^ 63) (hb : b < 2 ^ 63) where
 
   pub difference-read-fits : SFits w64 difference
   difference-read-fits = rw difference-read (difference_fits (sub_ℕ a b) a b (difference_is a b) ha hb)
-
--- two numbers are equal if their words are
-pub word_equal : (w : Width) (y z : ℤ) → SFits w y → SFits w z → of_z w y ≡ of_z w z → y ≡ z
-word_equal w y z fy fz e = sym (to_z-of_z w y fy) ∙ ap (to_z w) e ∙ to_z-of_z w z fz
 
 -- A number of 32 bits, signed, as one of 64
 

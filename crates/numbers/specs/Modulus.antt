@@ -1,10 +1,9 @@
 -- The rules on p and n (01, "When the solver declines"; 02, 2.2).
-use Rattle.std.specs.Prelude.{◌||◌, List, [], ◌∷◌, ℕ, ◌^◌, eqb, ltb}
+use Rattle.std.specs.Prelude.{◌||◌, List, [], ◌∷◌, ℕ, ◌^◌, eqb, ltb, Result}
+use Rattle.refusal.specs.declared.Refusal.{Refusal}
 use Rattle.theory.specs.Prime.{is_composite, least_divisor}
 use Rattle.refusal.specs.declared.Refusal.TheVariants.{PrimeOutOfRange, Composite, Precision}
-use Rattle.refusal.specs.Rules.{Verdict, passes, refuses, rule, tried}
-use Rattle.numbers.specs.declared.Modulus.{Modulus}
-use Rattle.numbers.specs.declared.Modulus.TheVariants.{Accepted, Refused}
+use Rattle.refusal.specs.Rules.{Verdict, rule, tried, value_or}
 
 -- "Rule 4 keeps only p below 2 or above 65,535."
 unfoldable pub rule4 : ℕ → Verdict
@@ -23,17 +22,12 @@ unfoldable pub modulus_rules : ℕ → ℕ → List Verdict
 unfolding rule4 rule14 rule5
 modulus_rules p n = rule4 p ∷ rule14 p ∷ rule5 p n ∷ []
 
--- pⁿ, or the refusal
-abbrev pub power_or : Verdict → ℕ → Modulus
-power_or passes m = Accepted m
-power_or (refuses r) m = Refused r
-
 -- by rule 5 alone
-unfoldable pub precision_of : ℕ → ℕ → Modulus
+unfoldable pub precision_of : ℕ → ℕ → Result ℕ Refusal
 unfolding rule5
-precision_of p n = power_or (tried (rule5 p n ∷ [])) (p ^ n)
+precision_of p n = value_or (tried (rule5 p n ∷ [])) (p ^ n)
 
 -- by all three
-unfoldable pub modulus_of : ℕ → ℕ → Modulus
+unfoldable pub modulus_of : ℕ → ℕ → Result ℕ Refusal
 unfolding modulus_rules
-modulus_of p n = power_or (tried (modulus_rules p n)) (p ^ n)
+modulus_of p n = value_or (tried (modulus_rules p n)) (p ^ n)

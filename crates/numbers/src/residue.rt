@@ -7,10 +7,7 @@ ghost use Rattle.theory.specs.Centered.{is_centered, centered as centered_of};
 fn remainder(k: u64, m: u64) -> u64
     ensures { result ≡ k % m }
 {
-    if m == 0 {
-        return k;
-    }
-    k % m
+    k.checked_rem(m).unwrap_or(k)
 }
 
 // −(k + 1) modulo m, which is 0 for m = 0.
@@ -49,10 +46,7 @@ pub fn centered(a: u32, q: u32) -> i64
 pub fn is_centered(z: i32, q: u32) -> bool
     ensures { result ≡ is_centered q z }
 {
-    let bound = q as i64;
-    let twice = 2 * (z as i64);
-    if twice <= -bound {
-        return false;
-    }
-    twice <= bound
+    let bound = i64::from(q);
+    let twice = 2 * i64::from(z);
+    -bound < twice && twice <= bound
 }

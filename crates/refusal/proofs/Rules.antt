@@ -1,5 +1,6 @@
 -- Each rule's verdict, from the fact that the rule tests.
-use mathlib.Core.Path.{◌≡◌, refl}
+use Rattle.std.specs.Prelude.{Ok, Err}
+use mathlib.Core.Path.{◌≡◌, refl, ap}
 use mathlib.Core.Bool.{Bool, true, false}
 use mathlib.Core.List.{List, [], ◌∷◌, ◌++◌, append-nil}
 use Prim.Native.Nat.{ℕ, ◌+◌, ◌*◌, min, ◌≤◌, ◌<◌}
@@ -12,7 +13,19 @@ use Rattle.refusal.specs.declared.Refusal.{Refusal}
 use Rattle.refusal.specs.declared.Refusal.TheVariants.{NoCoefficient, TooManyCoefficients, Lengths, Point, MapTooLarge, MapLength}
 use Rattle.refusal.specs.declared.Refusal.TheVariants.{TooFewSlots, BufferTooSmall, Tag, Full, PrecisionsFall}
 use Rattle.refusal.specs.Rules.{Verdict, passes, refuses, tried, rule2, rule3, rule6, rule6_three, rule8, rule9, rule10, rule11}
-use Rattle.refusal.specs.Rules.{rule12, rule15, rule16, rule17, rule, filled}
+use Rattle.refusal.specs.Rules.{rule12, rule15, rule16, rule17, rule, value_or, filled}
+
+-- What an answer says of the rules
+
+pub value_passes : {A : Type 0} (v : Verdict) (x y : A) → value_or v x ≡ Ok y → (v ≡ passes) × (y ≡ x)
+value_passes passes x y e = (refl, cc)
+value_passes (refuses r) x y e = let z : ◌≡◌ {A = ℕ} 0 1 = cc in absurd (omega arith)
+
+pub value_refuses : {A : Type 0} (v : Verdict) (x : A) (r : Refusal) → value_or v x ≡ Err r → v ≡ refuses r
+value_refuses passes x r e = let z : ◌≡◌ {A = ℕ} 0 1 = cc in absurd (omega arith)
+value_refuses (refuses s) x r e = let same : s ≡ r = cc in ap refuses same
+
+-- The rules
 
 pub rule2_refuses : (count : ℕ) → count ≡ 0 → rule2 count ≡ refuses NoCoefficient
 rule2_refuses count e = rw (eq-eqb count 0 e)

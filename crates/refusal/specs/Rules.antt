@@ -1,5 +1,5 @@
 -- The rules of 01's "When the solver declines" that are tests on numbers, and how rules are tried.
-use Rattle.std.specs.Prelude.{Bool, true, false, not, ◌&&◌, ◌||◌, List, [], ◌∷◌, ◌++◌, ℕ, ◌+◌, ◌*◌, min, eqb, ltb, leb, length, drop}
+use Rattle.std.specs.Prelude.{Bool, true, false, not, ◌&&◌, ◌||◌, List, [], ◌∷◌, ◌++◌, ℕ, ◌+◌, ◌*◌, min, eqb, ltb, leb, length, drop, Result, Ok, Err}
 use Rattle.refusal.specs.declared.Refusal.{Refusal}
 use Rattle.refusal.specs.declared.Refusal.TheVariants.{NoCoefficient, TooManyCoefficients, Lengths, Point, MapTooLarge, MapLength}
 use Rattle.refusal.specs.declared.Refusal.TheVariants.{TooFewSlots, BufferTooSmall, Tag, Full, PrecisionsFall}
@@ -20,6 +20,11 @@ abbrev pub tried : List Verdict → Verdict
 tried [] = passes
 tried (passes ∷ rules) = tried rules
 tried (refuses r ∷ rules) = refuses r
+
+-- what an operation answers: its value, or the refusal
+abbrev pub value_or : {A : Type 0} → Verdict → A → Result A Refusal
+value_or passes x = Ok x
+value_or (refuses r) x = Err r
 
 -- lent memory after a call: its front is written and the rest keeps its content, and a refusal "alters no lent memory"
 abbrev pub filled : {A : Type 0} → Verdict → List A → List A → List A

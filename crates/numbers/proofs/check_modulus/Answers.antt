@@ -1,4 +1,5 @@
 -- `numbers::check_modulus` meets its contract.
+use Rattle.std.specs.Prelude.{Err}
 use mathlib.Core.Path.{◌≡◌, sym, ap, ◌∙◌}
 use mathlib.Core.Logic.{⊎_elim}
 use mathlib.Core.Bool.{true, false}
@@ -8,7 +9,6 @@ use lib.Dec.{ltb}
 use Rattle.theory.proofs.Tests.{or_left, or_right}
 use Rattle.theory.proofs.Numbers.Prime.{composite-on, composite-off}
 use Rattle.refusal.specs.declared.Refusal.TheVariants.{Composite}
-use Rattle.numbers.specs.declared.Modulus.TheVariants.{Refused}
 use Rattle.numbers.proofs.Rules.{out_of_range, modulus-4, modulus-14, left-to-5}
 use Rattle.numbers.proofs.check_modulus.Goals as goal
 
@@ -29,7 +29,7 @@ returns-then-divisor-p c =
     let a = c.args in
     let found = c.least_divisor-divisor.ensures in
     let composite = composite-on a.p c.if-p-lt2.false (λ e. c.if-divisor-p.true (found ∙ e)) in
-    ap (λ (d : ℕ). Refused (Composite d)) found ∙ sym (modulus-14 a.p a.n (in_range a.p c.if-p-lt2.false c.if-p-gt65535.false) composite)
+    ap (λ (d : ℕ). Err (Composite d)) found ∙ sym (modulus-14 a.p a.n (in_range a.p c.if-p-lt2.false c.if-p-gt65535.false) composite)
 
 pub returns : goal.returns
 returns c =

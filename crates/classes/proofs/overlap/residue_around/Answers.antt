@@ -1,7 +1,8 @@
 -- `classes::overlap::residue_around` meets its contract.
 use mathlib.Core.Path.{◌≡◌, ap, ◌∙◌}
-use Prim.Native.Nat.{ℕ, ◌<◌}
+use Prim.Native.Nat.{ℕ, ◌≤◌, ◌<◌}
 use native.Mathlib.Omega.{arith}
+use lib.IntN.{ℤ}
 use mir.Syntax.{w32, w64}
 use mir.Val.{SFits, to_z, of_z}
 use mir.ValLaws.{to_z-of_z}
@@ -10,50 +11,37 @@ use Rattle.theory.specs.Centered.{centered}
 use Rattle.theory.proofs.Numbers.Reduction.{reduce-lt}
 use Rattle.theory.proofs.Signed.Centered.{centered-range}
 use Rattle.numbers.proofs.Words.{wide_fits, wide_read, narrow_fits}
-use Rattle.classes.proofs.overlap.residue_around.Lts as lts
-use Rattle.classes.proofs.overlap.residue_around.Reads as reads
-use Rattle.classes.proofs.overlap.residue_around.Tie as tie
 use Rattle.classes.proofs.overlap.residue_around.Goals as goal
 
-module _ (c : lts.After-reduce tie.the-claims reads.Pre reads.Post) where
-  abbrev call : lts.Start tie.the-claims reads.Pre reads.Post
-  call = c.before
-
-  abbrev q : ℕ
-  q = call.args.q
-
-  abbrev a : ℕ
-  a = reduce q call.args.z
-
-  reduced-is : c.reduce-a.result ≡ a
-  reduced-is = c.reduce-a.ensures ∙ ap (reduce q) (wide_read call.args.z call.ranges.z)
+-- the calls' answers, as the words between them are read
+module _ {q : ℕ} {z : ℤ} (above : 0 < q) (small : q ≤ 4294967295) (z-fits : SFits w32 z) {a : ℕ}
+    (reduced : a ≡ reduce q (to_z w64 (of_z w64 (to_z w32 (of_z w32 z))))) where
+  reduced-is : a ≡ reduce q z
+  reduced-is = reduced ∙ ap (reduce q) (wide_read z z-fits)
 
   below : a < q
-  below = reduce-lt q call.requires.0 call.args.z
+  below = rw reduced-is (reduce-lt q above z)
 
-module _ (c : lts.After-centered tie.the-claims reads.Pre reads.Post) where
-  abbrev before : lts.After-reduce tie.the-claims reads.Pre reads.Post
-  before = c.before
+  module _ {r : ℤ} (found : r ≡ centered q a) where
+    result-is : r ≡ centered q (reduce q z)
+    result-is = found ∙ ap (centered q) reduced-is
 
-  result-is : c.centered.result ≡ centered (q before) (a before)
-  result-is = c.centered.ensures ∙ ap (centered (q before)) (reduced-is before)
+    narrow : SFits w32 r
+    narrow = rw found (narrow_fits q (centered q a) small (centered-range q a below))
 
-  narrow : SFits w32 c.centered.result
-  narrow =
-      rw result-is
-      (narrow_fits (q before) (centered (q before) (a before)) (call before).requires.1 (centered-range (q before) (a before) (below before)))
-
-  read : to_z w64 (of_z w64 c.centered.result) ≡ c.centered.result
-  read = to_z-of_z w64 c.centered.result (wide_fits c.centered.result narrow)
-
-pub overflow_cast-z : goal.overflow_cast-z
-overflow_cast-z c = rw (to_z-of_z w32 c.args.z c.ranges.z) (wide_fits c.args.z c.ranges.z)
+    read : to_z w64 (of_z w64 r) ≡ r
+    read = to_z-of_z w64 r (wide_fits r narrow)
 
 pub overflow_cast-a : goal.overflow_cast-a
-overflow_cast-a c = record { fits = omega (arith, reduced-is c, below c, c.requires.1) }
+overflow_cast-a c = record { fits = omega (arith, below c.requires.0 c.requires.1 c.ranges.z c.reduce-a.ensures) }
 
 pub overflow_cast-result : goal.overflow_cast-result
-overflow_cast-result c = rw (read c) (narrow c)
+overflow_cast-result c =
+    rw (read c.requires.0 c.requires.1 c.ranges.z c.reduce-a.ensures c.centered.ensures)
+    (narrow c.requires.0 c.requires.1 c.ranges.z c.reduce-a.ensures c.centered.ensures)
 
 pub returns : goal.returns
-returns c = rw (read c) (to_z-of_z w32 c.centered.result (narrow c) ∙ result-is c)
+returns c =
+    rw (read c.requires.0 c.requires.1 c.ranges.z c.reduce-a.ensures c.centered.ensures)
+    (to_z-of_z w32 c.centered.result (narrow c.requires.0 c.requires.1 c.ranges.z c.reduce-a.ensures c.centered.ensures)
+    ∙ result-is c.requires.0 c.requires.1 c.ranges.z c.reduce-a.ensures c.centered.ensures)
