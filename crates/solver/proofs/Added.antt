@@ -5,7 +5,7 @@ use Prim.Native.Nat.{ℕ, ◌+◌, ◌-◌, ◌≤◌, ◌<◌}
 use native.Mathlib.Decide.{dec_lt}
 use native.Mathlib.Omega.{arith}
 use lib.ListN.{length, get_or, take, drop, length-append, length-drop, get_or-append, get_or-eq_default}
-use lib.Seq.{get_or-take, get_or-drop, get_or-append-add, length-take-le, take_all}
+use lib.Seq.{get_or-take, get_or-drop, get_or-append-add, get_or-append_right, length-take-le, take_all}
 use Rattle.theory.specs.inner.Overwritten.{Overwritten}
 
 -- A i is added to each entry i below e
@@ -37,6 +37,24 @@ plus-some A x v e {l₀} {l} h a same none =
     inside : (k : ℕ) → k < e → Dec (k < v) → get_or l k 0 ≡ get_or l₀ k 0 + A k
     inside k high (yes u) = omega (arith, a.inside k (omega arith) u, same k u)
     inside k high (no u) = omega (arith, a.above k (omega arith), none k (omega arith) high)
+
+-- in a part of its own, which is the first e entries
+pub plus-front : (A : ℕ → ℕ) (e : ℕ) {l₀ part : List ℕ} → e ≤ length l₀ → Plus A e (take e l₀) part → Plus A e l₀ (part ++ drop e l₀)
+plus-front A e {l₀} {part} h a =
+    record {
+      long = length-append part (drop e l₀) ∙ omega (arith, long, length-drop e l₀);
+      inside = λ k low high.
+          get_or-append part (drop e l₀) 0 k (omega (arith, long)) ∙ a.inside k low high ∙ ap (λ (y : ℕ). y + A k) (get_or-take e l₀ k 0 high);
+      below = λ k u. absurd (omega arith);
+      above = λ k u.
+          let at : e + (k - length part) ≡ k = omega (arith, long) in
+          get_or-append_right part (drop e l₀) k 0 (omega (arith, long))
+          ∙ get_or-drop e l₀ (k - length part) 0
+          ∙ ap (λ (i : ℕ). get_or l₀ i 0) at;
+    }
+  where
+    long : length part ≡ e
+    long = a.long ∙ length-take-le e l₀ h
 
 -- x is added to the first s entries, and then B to the others, in a part of their own
 module _ (A B : ℕ → ℕ) (x s e e' : ℕ) {l₀ l : List ℕ} (long : length l₀ ≡ e) (h : s ≤ e) (e'-is : e' ≡ e - s) (a : Plus (λ i. x) s l₀ l)

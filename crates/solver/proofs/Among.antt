@@ -28,11 +28,11 @@ use Rattle.classes.specs.Rule7.{classes_of}
 use Rattle.classes.proofs.Entries.{lent_length}
 use Rattle.classes.proofs.Faults.{faultless-apart}
 use Rattle.solver.specs.inner.Table.{Below}
-use Rattle.solver.specs.inner.Code.{code, class_of, ResiduesFit}
-use Rattle.solver.specs.inner.Start.{codes_of}
+use Rattle.solver.specs.inner.Entry.{entry, class_of}
+use Rattle.solver.specs.inner.Start.{entries_of}
 use Rattle.solver.specs.inner.Raise.{GivenClasses, classes_among, zeros_among}
 use Rattle.solver.proofs.Top.{zeros-few}
-use Rattle.solver.proofs.Codes.{classes-back, residues-fit}
+use Rattle.solver.proofs.Entries.{classes-back}
 
 module _ {w : List ℕ} {p n m : ℕ} (U : Usable p n m) (short : length w ≤ 65) (b : Below m w) {residues : List ℤ} {levels : List ℕ}
     (given : GivenClasses p n residues levels) where
@@ -76,15 +76,12 @@ module _ {w : List ℕ} {p n m : ℕ} (U : Usable p n m) (short : length w ≤ 6
   found-classes c u =
       let (d, v, e) = in_map (signed p) found_classes c u in rw e (signed-class p n hp d (found-apart.classes d v))
 
-  -- as numbers
-  found-codes : codes_of p found_classes ≡ map code signed_classes
-  found-codes = sym (map-map code (signed p) found_classes)
+  -- as entries
+  found-codes : entries_of p found_classes ≡ map entry signed_classes
+  found-codes = sym (map-map entry (signed p) found_classes)
 
-  pub found-fit : ResiduesFit (codes_of p found_classes)
-  found-fit = rw found-codes (residues-fit U signed_classes found-classes)
-
-  pub found_back : map class_of (codes_of p found_classes) ≡ signed_classes
-  found_back = ap (map class_of) found-codes ∙ classes-back U signed_classes found-classes
+  pub found_back : map class_of (entries_of p found_classes) ≡ signed_classes
+  found_back = ap (map class_of) found-codes ∙ classes-back signed_classes
 
   back : naturals p signed_classes ≡ found_classes
   back = all-natural-signed p n hp found_classes found-apart.classes

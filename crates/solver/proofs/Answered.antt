@@ -1,4 +1,5 @@
 -- What an answer of the solver says: of its verdict, of p and n, and of the first slots of its lists.
+use Rattle.std.specs.Prelude.{Ok, Err}
 use mathlib.Core.Path.{◌≡◌, refl, sym, ap, ◌∙◌}
 use mathlib.Core.Bool.{true}
 use mathlib.Core.List.{List, ◌∷◌, map}
@@ -16,28 +17,20 @@ use Rattle.theory.specs.Live.{live}
 use Rattle.theory.specs.Shortest.{count}
 use Rattle.theory.proofs.Live.Bound.{live_most, live-all_zero}
 use Rattle.refusal.specs.declared.Refusal.{Refusal}
-use Rattle.refusal.specs.Rules.{Verdict, passes, refuses, filled, rule2, rule3}
-use Rattle.refusal.proofs.Rules.{tried-first, tried-both}
+use Rattle.refusal.specs.Rules.{passes, refuses, filled, rule2, rule3}
+use Rattle.refusal.proofs.Rules.{tried-first, tried-both, value_passes, value_refuses}
 use Rattle.numbers.specs.Modulus.{modulus_rules}
 use Rattle.numbers.specs.inner.Usable.{Usable}
 use Rattle.numbers.proofs.Rules.{passes-usable}
-use Rattle.solver.specs.declared.Solved.TheVariants.{Found, Refused}
-use Rattle.solver.specs.Solve.{Lists, polynomial_rules, list_rules, solution, marks_of, solver_verdict, solved_of, found_or, lists_after}
-
-found_means : (v : Verdict) (a b d k c l : ℕ) → found_or v a b d ≡ Found k c l → (v ≡ passes) × (k ≡ a) × (c ≡ b) × (l ≡ d)
-found_means passes a b d k c l e = (refl, cc e, cc e, cc e)
-found_means (refuses r) a b d k c l e = let z : ◌≡◌ {A = ℕ} 0 1 = cc e in absurd (omega arith)
-
-refused_means : (v : Verdict) (a b d : ℕ) (r : Refusal) → found_or v a b d ≡ Refused r → v ≡ refuses r
-refused_means passes a b d r e = let z : ◌≡◌ {A = ℕ} 0 1 = cc e in absurd (omega arith)
-refused_means (refuses s) a b d r e = let same : s ≡ r = cc e in ap refuses same
+use Rattle.solver.specs.declared.Found.{Found}
+use Rattle.solver.specs.Solve.{Lists, polynomial_rules, list_rules, solution, marks_of, solver_verdict, solved_of, found, lists_after}
 
 module _ (f : List ℤ) (p n : ℕ) (given : Lists) where
   -- a call that is refused
-  pub refused-verdict : (r : Refusal) → solved_of f p n given ≡ Refused r → solver_verdict f p n given ≡ refuses r
+  pub refused-verdict : (r : Refusal) → solved_of f p n given ≡ Err r → solver_verdict f p n given ≡ refuses r
   unfolding solved_of
   refused-verdict r e =
-      refused_means (solver_verdict f p n given) (length (solution f p n)) (count (roots f p n) p n) (live f p n) r e
+      value_refuses (solver_verdict f p n given) (found (length (solution f p n)) (count (roots f p n) p n) (live f p n)) r e
 
   -- rules that pass pass p and n
   pub passes-modulus : solver_verdict f p n given ≡ passes → Usable p n (p ^ n)
@@ -49,22 +42,23 @@ module _ (f : List ℤ) (p n : ℕ) (given : Lists) where
       passes-usable p n (tried-first (rule3 c) m (tried-first (rule2 c) (rule3 c ∷ m) all).1).1 (p ^ n) refl
 
   -- a call that is accepted, with k, the root count and the number of live classes
-  module _ {k c l : ℕ} (e : solved_of f p n given ≡ Found k c l) where
-    known : (solver_verdict f p n given ≡ passes) × (k ≡ length (solution f p n)) × (c ≡ count (roots f p n) p n) × (l ≡ live f p n)
+  module _ {k c l : ℕ} (e : solved_of f p n given ≡ Ok (found k c l)) where
+    known : (solver_verdict f p n given ≡ passes) × (found k c l ≡ found (length (solution f p n)) (count (roots f p n) p n) (live f p n))
     unfolding solved_of
-    known = found_means (solver_verdict f p n given) (length (solution f p n)) (count (roots f p n) p n) (live f p n) k c l e
+    known =
+        value_passes (solver_verdict f p n given) (found (length (solution f p n)) (count (roots f p n) p n) (live f p n)) (found k c l) e
 
     pub found-passes : solver_verdict f p n given ≡ passes
     found-passes = known.0
 
     pub found_number : k ≡ length (solution f p n)
-    found_number = known.1
+    found_number = ap (λ (a : Found). a.classes) known.1
 
     pub found-count : c ≡ count (roots f p n) p n
-    found-count = known.2
+    found-count = ap (λ (a : Found). a.roots) known.1
 
     pub found-live : l ≡ live f p n
-    found-live = known.3
+    found-live = ap (λ (a : Found). a.live) known.1
 
     -- "never above 1 + n × D"
     pub found-live-most : l ≤ 1 + n * degree_bound p (reduced f p n)

@@ -5,7 +5,7 @@ use Prim.Native.Nat.{ℕ, zero, suc, ◌%◌, ◌^◌, ◌≤◌, ◌<◌}
 use native.Mathlib.Omega.{arith}
 use lib.Dec.{eqb}
 use lib.IntN.{ℤ}
-use lib.ListN.{length, get_or}
+use lib.ListN.{length, length-map, get_or}
 use Rattle.theory.specs.Prime.{divides}
 use Rattle.theory.specs.Polynomial.{reduce, reduced, roots, zeros, value}
 use Rattle.theory.proofs.Numbers.Power.{pow_pos}
@@ -44,6 +44,12 @@ module _ (f : List ℤ) {p n m : ℕ} (U : Usable p n m) {w : List ℕ} (r : w �
   pub row_is : w ≡ reduced f p n
   unfolding reduced
   row_is = r ∙ ap (λ (q : ℕ). map (reduce q) f) U.power
+
+  pub row_some : 0 < length f → 0 < length w
+  row_some h = omega (arith, ap length r, length-map f (reduce m))
+
+  pub row_few : length f ≤ 65 → length w ≤ 65
+  row_few h = omega (arith, ap length r, length-map f (reduce m))
 
   pub row_below : Below m w
   row_below = record { at = λ i. rw r (reduced-below m (usable_pos U) f i) }

@@ -1,4 +1,5 @@
 -- Worked cases on the definitions.
+use Rattle.std.specs.Prelude.{Ok, Err}
 use mathlib.Core.Path.{◌≡◌, refl}
 use mathlib.Core.List.{List, [], ◌∷◌}
 use Prim.Native.Nat.{ℕ}
@@ -11,7 +12,6 @@ use Rattle.theory.specs.SignedList.{signed_list}
 use Rattle.refusal.specs.declared.Refusal.TheVariants.{Composite}
 use Rattle.numbers.specs.Modulus.{modulus_rules}
 use Rattle.solver.specs.declared.Query.{Query}
-use Rattle.solver.specs.declared.TestedAll.TheVariants.{Answered, Refused}
 use Rattle.solver.specs.Solve.{tested_of, test_verdict}
 use Rattle.solver.specs.Raise.{roots_among, raised}
 use Rattle.solver.specs.Points.{answered_of, points_verdict, tested_all_of, queries_after}
@@ -27,11 +27,11 @@ query point answer = record { point = point; answer = answer }
 abbrev given : List Query
 given = query 0 77 ∷ query 16 77 ∷ query 7 77 ∷ query 1 77 ∷ []
 
-pub row_answered : (tested_all_of f 2 4 ≡ Answered) × (queries_after f 2 4 given ≡ query 0 0 ∷ query 16 8 ∷ query 7 1 ∷ query 1 1 ∷ [])
+pub row_answered : (tested_all_of f 2 4 ≡ (Ok tt)) × (queries_after f 2 4 given ≡ query 0 0 ∷ query 16 8 ∷ query 7 1 ∷ query 1 1 ∷ [])
 unfolding tested_all_of queries_after points_verdict answered_of tested_of test_verdict modulus_rules is_composite roots
 row_answered = (refl, refl)
 
-pub row_refused : (tested_all_of f 9 4 ≡ Refused (Composite 3)) × (queries_after f 9 4 given ≡ given)
+pub row_refused : (tested_all_of f 9 4 ≡ Err (Composite 3)) × (queries_after f 9 4 given ≡ given)
 unfolding tested_all_of queries_after points_verdict modulus_rules is_composite least_divisor
 row_refused = (refl, refl)
 

@@ -1,5 +1,7 @@
 -- 64 slots are enough: a polynomial with at most 65 coefficients has at most 64 classes, so that of the solver's rules only those on p and
 -- n are left.
+use Rattle.std.specs.Prelude.{Result, Ok, Err}
+use Rattle.refusal.specs.declared.Refusal.{Refusal}
 use mathlib.Core.Path.{◌≡◌, refl, sym, ap, ◌∙◌}
 use mathlib.Core.Bool.{Bool, true, false}
 use mathlib.Core.List.{List, ◌++◌}
@@ -16,8 +18,6 @@ use Rattle.theory.proofs.Polynomials.Roots.{all_zero_list, at_most_D, D-lt}
 use Rattle.theory.proofs.Signed.Entries.{signed-length}
 use Rattle.refusal.specs.Rules.{passes, tried}
 use Rattle.refusal.proofs.Rules.{coefficients_lead, rule6_three_passes, rule11_passes}
-use Rattle.numbers.specs.declared.Modulus.{Modulus}
-use Rattle.numbers.specs.declared.Modulus.TheVariants.{Accepted, Refused}
 use Rattle.numbers.specs.Modulus.{modulus_rules, modulus_of}
 use Rattle.numbers.specs.inner.Usable.{Usable}
 use Rattle.numbers.proofs.Rules.{usable, usable_leads, modulus-refuses, refused-leads}
@@ -58,10 +58,10 @@ verdict_of_modulus f p n some few given S =
     coefficients_lead (length f) (λ e. omega arith) few (modulus_rules p n ++ list_rules given (length (solution f p n)))
     ∙ go (modulus_of p n) refl
   where
-    go : (M : Modulus) → modulus_of p n ≡ M
+    go : (M : Result ℕ Refusal) → modulus_of p n ≡ M
         → tried (modulus_rules p n ++ list_rules given (length (solution f p n))) ≡ tried (modulus_rules p n)
-    go (Accepted m) e =
+    go (Ok m) e =
         let U = usable p n m e in
         let k = length (solution f p n) in
         usable_leads U (list_rules given k) ∙ slots_pass given S k (solution_few f U few) ∙ sym U.accepted
-    go (Refused r) e = refused-leads p n r e (list_rules given (length (solution f p n))) ∙ sym (modulus-refuses p n r e)
+    go (Err r) e = refused-leads p n r e (list_rules given (length (solution f p n))) ∙ sym (modulus-refuses p n r e)

@@ -1,5 +1,6 @@
 -- "If the given list is that of f at n, result and count equal the fresh ones at m" (02, 2.9): raising the solver's list answers and writes
 -- what the solver answers and writes at m, refusals included.
+use Rattle.std.specs.Prelude.{Ok}
 use mathlib.Core.Path.{◌≡◌, refl, sym, ◌∙◌}
 use mathlib.Core.List.{List, [], ◌∷◌, ◌++◌}
 use Prim.Native.Nat.{ℕ, ◌^◌, ◌≤◌}
@@ -12,18 +13,16 @@ use Rattle.theory.specs.Live.{live}
 use Rattle.theory.specs.SignedClass.{SignedClass, residues_of, levels_of}
 use Rattle.theory.proofs.Numbers.Prime.{prime_pos}
 use Rattle.theory.proofs.Signed.Raised.{raised-list-fresh, raised-count-fresh}
-use Rattle.refusal.specs.Rules.{Verdict, passes, refuses, tried, rule6, rule6_three, rule11, rule17}
-use Rattle.refusal.proofs.Rules.{tried_leads, tried-both, tried-first, rule6_passes, rule17_passes, coefficients_lead}
+use Rattle.refusal.specs.Rules.{Verdict, passes, refuses, tried, rule6, rule6_three, rule11, rule17, value_or}
+use Rattle.refusal.proofs.Rules.{tried_leads, tried-both, tried-first, rule6_passes, rule17_passes, coefficients_lead, value_passes}
 use Rattle.numbers.specs.Modulus.{rule4, rule14, rule5, modulus_rules}
 use Rattle.numbers.specs.inner.Usable.{Usable}
-use Rattle.numbers.proofs.Rules.{accepted_means}
 use Rattle.classes.specs.Rule7.{classes_of, rule7}
 use Rattle.classes.proofs.Entries.{classes_of_parts}
 use Rattle.classes.proofs.ListAccepted.{list_accepted}
-use Rattle.solver.specs.declared.Solved.TheVariants.{Found}
-use Rattle.solver.specs.Solve.{Lists, polynomial_rules, list_rules, solution, found_or, solver_verdict, solved_of}
+use Rattle.solver.specs.Solve.{Lists, polynomial_rules, list_rules, solution, found, solver_verdict, solved_of}
 use Rattle.solver.specs.Solve.{lists_after}
-use Rattle.solver.specs.Raise.{roots_among, raised, raise_verdict, raised_or, without_live, raised_of, raised_lists}
+use Rattle.solver.specs.Raise.{roots_among, raised, raise_verdict, listed, without_live, raised_of, raised_lists}
 use Rattle.solver.specs.inner.UsablePolynomial.{polynomial_modulus, UsablePolynomial}
 use Rattle.solver.proofs.Verdicts.{usable-polynomial}
 use Rattle.solver.proofs.RaiseRules.{checked_7}
@@ -37,7 +36,7 @@ left_out passes (refuses r) y = refl
 left_out (refuses r) x y = refl
 
 -- the answer for the same verdict, number and count
-same_answer : (v : Verdict) (k c l : ℕ) → raised_or v k c ≡ without_live (found_or v k c l)
+same_answer : (v : Verdict) (k c l : ℕ) → value_or v (listed k c) ≡ without_live (value_or v (found k c l))
 same_answer passes k c l = refl
 same_answer (refuses r) k c l = refl
 
@@ -69,7 +68,7 @@ module _ (f : List ℤ) (p n m : ℕ) (accepted : tried (polynomial_rules f p n)
   seven : tried (rule7 p n (classes_of (residues_of L) (levels_of L)) ∷ []) ≡ passes
   unfolding solution
   seven =
-      (accepted_means _ (p ^ n) (p ^ n) (sym (checked_7 p n (residues_of L) (levels_of L) same_length U)
+      (value_passes _ (p ^ n) (p ^ n) (sym (checked_7 p n (residues_of L) (levels_of L) same_length U)
       ∙ list_accepted (roots f p n) p n (p ^ n) U)).0
 
   list-is : raised f p m (classes_of (residues_of L) (levels_of L)) ≡ solution f p m
@@ -121,7 +120,7 @@ module _ (f : List ℤ) (p n m : ℕ) (accepted : tried (polynomial_rules f p n)
     lists-fresh = rw (verdict-is, list-is)
 
 -- the same of calls: after an accepted call of the solver at n, its first k slots are raised
-module _ (f : List ℤ) (p n m : ℕ) (given : Lists) {k c l : ℕ} (answer : solved_of f p n given ≡ Found k c l) (h : n ≤ m) (lent : Lists)
+module _ (f : List ℤ) (p n m : ℕ) (given : Lists) {k c l : ℕ} (answer : solved_of f p n given ≡ Ok (found k c l)) (h : n ≤ m) (lent : Lists)
   where
     accepted : tried (polynomial_rules f p n) ≡ passes
     unfolding solver_verdict

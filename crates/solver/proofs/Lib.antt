@@ -1,15 +1,12 @@
 -- Laws of the solver's inner definitions.
 mod Tables
 mod Lowest
-mod Sorting
-mod Sorted
 mod Shift
 mod Zeros
 mod Marks
 mod Linear
 mod FiniteDifferences
-mod Biased
-mod Codes
+mod Entries
 mod Joining
 mod Appended
 mod Node

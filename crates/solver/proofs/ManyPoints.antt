@@ -1,28 +1,19 @@
 -- What the test of many points promises, in the words of 02, 2.5.
+use Rattle.std.specs.Prelude.{Ok, Err}
 use mathlib.Core.Path.{◌≡◌, refl, sym, ap, ◌∙◌}
 use mathlib.Core.Bool.{true, false}
 use mathlib.Core.List.{List, [], ◌∷◌, map}
 use Prim.Native.Nat.{ℕ, ◌^◌, ◌≤◌, ◌<◌}
-use native.Mathlib.Omega.{arith}
 use lib.IntN.{ℤ}
 use lib.ListN.{length, length-map, get_or}
 use Rattle.theory.specs.Polynomial.{roots}
 use Rattle.theory.proofs.Lists.Map.{map-map, get_d_map}
 use Rattle.refusal.specs.declared.Refusal.{Refusal}
-use Rattle.refusal.specs.Rules.{Verdict, passes, refuses, tried, filled, rule8}
-use Rattle.refusal.proofs.Rules.{tried_leads, rule8_refuses, rule8_passes, filled_whole}
+use Rattle.refusal.specs.Rules.{Verdict, passes, refuses, tried, filled, rule8, value_or}
+use Rattle.refusal.proofs.Rules.{tried_leads, rule8_refuses, rule8_passes, filled_whole, value_passes, value_refuses}
 use Rattle.solver.specs.declared.Query.{Query}
-use Rattle.solver.specs.declared.TestedAll.TheVariants.{Answered, Refused}
-use Rattle.solver.specs.Solve.{polynomial_rules, yes_or, test_verdict, tested_of}
-use Rattle.solver.specs.Points.{answer_number, answered_of, answered_or, points_verdict, tested_all_of, queries_after}
-
-answered_passes : (v : Verdict) → answered_or v ≡ Answered → v ≡ passes
-answered_passes passes e = refl
-answered_passes (refuses r) e = let z : ◌≡◌ {A = ℕ} 0 1 = cc e in absurd (omega arith)
-
-refused_refuses : (v : Verdict) (r : Refusal) → answered_or v ≡ Refused r → v ≡ refuses r
-refused_refuses passes r e = let z : ◌≡◌ {A = ℕ} 0 1 = cc e in absurd (omega arith)
-refused_refuses (refuses s) r e = let same : s ≡ r = cc e in ap refuses same
+use Rattle.solver.specs.Solve.{polynomial_rules, test_verdict, tested_of}
+use Rattle.solver.specs.Points.{answer_number, answered_of, points_verdict, tested_all_of, queries_after}
 
 module _ (f : List ℤ) (p n : ℕ) where
   whole_row : (queries : List Query) → filled passes (map (answered_of f p n) queries) queries ≡ map (answered_of f p n) queries
@@ -38,9 +29,9 @@ module _ (f : List ℤ) (p n : ℕ) where
       go (refuses r) = refl
 
   -- a refusal alters nothing
-  pub refused-stays : (r : Refusal) → tested_all_of f p n ≡ Refused r → (queries : List Query) → queries_after f p n queries ≡ queries
+  pub refused-stays : (r : Refusal) → tested_all_of f p n ≡ Err r → (queries : List Query) → queries_after f p n queries ≡ queries
   unfolding tested_all_of queries_after
-  refused-stays r e queries = rw (refused_refuses (points_verdict f p n) r e)
+  refused-stays r e queries = rw (value_refuses (points_verdict f p n) tt r e)
 
   -- "An empty row is fine": it stays empty, and the answer is that of any row
   pub empty-row : queries_after f p n [] ≡ []
@@ -52,10 +43,10 @@ module _ (f : List ℤ) (p n : ℕ) where
       go (refuses r) = refl
 
   -- a call that is accepted
-  module _ (accepted : tested_all_of f p n ≡ Answered) where
+  module _ (accepted : tested_all_of f p n ≡ Ok tt) where
     rules-pass : tried (polynomial_rules f p n) ≡ passes
     unfolding tested_all_of points_verdict
-    rules-pass = answered_passes (tried (polynomial_rules f p n)) accepted
+    rules-pass = (value_passes (tried (polynomial_rules f p n)) tt tt accepted).0
 
     -- every record has its answer
     pub all-answered : (queries : List Query) → queries_after f p n queries ≡ map (answered_of f p n) queries
@@ -68,10 +59,10 @@ module _ (f : List ℤ) (p n : ℕ) where
     record-answered queries i d h =
         ap (λ ys. get_or ys i d) (all-answered queries) ∙ get_d_map (answered_of f p n) queries i d d h
 
-    answer-is : (q : Query) → (answered_of f p n q).answer ≡ answer_number (yes_or (tried (rule8 q.point (p ^ n) ∷ [])) (roots f p n q.point))
+    answer-is : (q : Query) → (answered_of f p n q).answer ≡ answer_number (value_or (tried (rule8 q.point (p ^ n) ∷ [])) (roots f p n q.point))
     unfolding answered_of tested_of test_verdict
     answer-is q =
-        ap (λ (v : Verdict). answer_number (yes_or v (roots f p n q.point)))
+        ap (λ (v : Verdict). answer_number (value_or v (roots f p n q.point)))
         (tried_leads (polynomial_rules f p n) (rule8 q.point (p ^ n) ∷ []) rules-pass)
 
     -- 8 for a point that is not below pⁿ

@@ -1,4 +1,5 @@
 -- What raising a list answers: where all rules but 11 pass, it is the answer on residues.
+use Rattle.std.specs.Prelude.{Ok, Err}
 use mathlib.Core.Path.{◌≡◌, refl, sym, ap, ◌∙◌}
 use mathlib.Core.Bool.{◌||◌}
 use mathlib.Core.List.{List, [], ◌∷◌, map}
@@ -14,20 +15,18 @@ use Rattle.theory.specs.Mark.{mark}
 use Rattle.theory.proofs.Tests.{or_fails_left, or_fails_right}
 use Rattle.refusal.specs.declared.Refusal.{Refusal}
 use Rattle.refusal.specs.declared.Refusal.TheVariants.{PrecisionsFall, Lengths, TooFewSlots}
-use Rattle.refusal.specs.Rules.{Verdict, passes, tried, rule6, rule6_three, rule11, rule17}
-use Rattle.refusal.proofs.Rules.{tried_leads, tried_refuses, tried-both, tried-first, rule_passes, rule11_refuses, rule11_passes}
-use Rattle.numbers.specs.declared.Modulus.TheVariants as modulus
-use Rattle.numbers.specs.Modulus.{rule4, rule14, rule5, modulus_rules, power_or}
+use Rattle.refusal.specs.Rules.{Verdict, passes, tried, rule6, rule6_three, rule11, rule17, value_or}
+use Rattle.refusal.proofs.Rules.{tried_leads, tried_refuses, tried-both, tried-first, rule_passes, rule11_refuses, rule11_passes, value_passes, value_refuses}
+use Rattle.numbers.specs.Modulus.{rule4, rule14, rule5, modulus_rules}
 use Rattle.numbers.specs.inner.Usable.{Usable}
-use Rattle.numbers.proofs.Rules.{accepted_means, refused_means, passes-usable}
+use Rattle.numbers.proofs.Rules.{passes-usable}
 use Rattle.classes.specs.Rule7.{classes_of, rule7}
 use Rattle.classes.specs.Checked.{checked_of}
 use Rattle.classes.proofs.Checks.{same_three_lengths, checked-accepted}
 use Rattle.classes.proofs.Faults.{faultless_higher}
 use Rattle.solver.specs.declared.raise.LentLengths.{LentLengths}
-use Rattle.solver.specs.declared.raise.Raised.TheVariants.{Refused}
 use Rattle.solver.specs.Solve.{Lists, polynomial_rules, lists_filled}
-use Rattle.solver.specs.Raise.{raise_rules, roots_among, raised, raised_marks, raise_verdict, raised_or, raised_of, raised_lists}
+use Rattle.solver.specs.Raise.{raise_rules, roots_among, raised, raised_marks, raise_verdict, listed, raised_of, raised_lists}
 use Rattle.solver.specs.inner.UsablePolynomial.{polynomial_modulus, UsablePolynomial}
 use Rattle.solver.specs.inner.Raise.{raise_modulus, GivenClasses, classes_among, among_verdict, among_raised, among_lists}
 use Rattle.solver.proofs.Coefficients.{row_below}
@@ -44,7 +43,7 @@ lengths_of given = record { residues = length given.residues; levels = length gi
 module _ (w : List ℕ) (p n : ℕ) (residues : List ℤ) (levels : List ℕ) (given : Lists) {x : ℕ}
     (x-is : x ≡ length (classes_among w p n (classes_of residues levels))) where
   pub among-refused : length given.residues < x
-      → (Refused (TooFewSlots x) ≡ among_raised w p n (classes_of residues levels) given)
+      → (Err (TooFewSlots x) ≡ among_raised w p n (classes_of residues levels) given)
       × (given ≡ among_lists w p n (classes_of residues levels) given)
   unfolding among_verdict
   among-refused h = rw (x-is, rule11_refuses (length given.residues) _ (rw x-is at h)) (refl, refl)
@@ -78,17 +77,17 @@ module _ (f : List ℤ) (p n m : ℕ) (residues : List ℤ) (levels : List ℕ) 
   last = rule11 (length given.residues) (length (raised f p m (classes_of residues levels))) ∷ []
 
   -- a refusal alters nothing
-  pub raised-refused : (r : Refusal) → raise_modulus f p n m residues levels (lengths_of given) ≡ modulus.Refused r
-      → (Refused r ≡ raised_of f p n m residues levels given) × (given ≡ raised_lists f p n m residues levels given)
+  pub raised-refused : (r : Refusal) → raise_modulus f p n m residues levels (lengths_of given) ≡ Err r
+      → (Err r ≡ raised_of f p n m residues levels given) × (given ≡ raised_lists f p n m residues levels given)
   unfolding raise_modulus raise_verdict raised_of raised_lists
   raised-refused r e =
-      rw (tried_refuses rules last r (refused_means (tried rules) (p ^ m) r e)) (refl, refl)
+      rw (tried_refuses rules last r (value_refuses (tried rules) (p ^ m) r e)) (refl, refl)
 
-  module _ (q : ℕ) (accepted : raise_modulus f p n m residues levels (lengths_of given) ≡ modulus.Accepted q) where
+  module _ (q : ℕ) (accepted : raise_modulus f p n m residues levels (lengths_of given) ≡ Ok q) where
     -- the rules one by one
     all_pass : (tried rules ≡ passes) × (q ≡ p ^ m)
     unfolding raise_modulus
-    all_pass = accepted_means (tried rules) (p ^ m) q accepted
+    all_pass = value_passes (tried rules) (p ^ m) q accepted
 
     parts : (tried (polynomial_rules f p n) ≡ passes) × (tried (rule5 p m ∷ from-17) ≡ passes)
     parts = tried-both (polynomial_rules f p n) (rule5 p m ∷ from-17) all_pass.0
@@ -139,9 +138,9 @@ module _ (f : List ℤ) (p n m : ℕ) (residues : List ℤ) (levels : List ℕ) 
         let e = or_fails_left (a || b) c (rule_passes _ PrecisionsFall after-17.0) in
         (ltb-false m n (or_fails_left a b e), ltb-false 64 (length residues) (or_fails_right a b e))
 
-    list-checked : checked_of p n residues levels ≡ modulus.Accepted (p ^ n)
+    list-checked : checked_of p n residues levels ≡ Ok (p ^ n)
     list-checked =
-        checked_7 p n residues levels same_length polynomial.modulus ∙ ap (λ (v : Verdict). power_or v (p ^ n)) after-lent.1
+        checked_7 p n residues levels same_length polynomial.modulus ∙ ap (λ (v : Verdict). value_or v (p ^ n)) after-lent.1
 
     pub raise-given : GivenClasses p m residues levels
     raise-given =
@@ -160,7 +159,7 @@ module _ (f : List ℤ) (p n m : ℕ) (residues : List ℤ) (levels : List ℕ) 
     unfolding raised_of raised roots_among roots
     raised_is =
         let G = classes_of residues levels in
-        ap (λ (v : Verdict). raised_or v (length (raised f p m G)) (count (roots_among f p m G) p m)) verdict-is
+        ap (λ (v : Verdict). value_or v (listed (length (raised f p m G)) (count (roots_among f p m G) p m))) verdict-is
 
     pub raised-lists-are : raised_lists f p n m residues levels given ≡ among_lists (reduced f p m) p m (classes_of residues levels) given
     unfolding raised_lists raised roots_among roots mark

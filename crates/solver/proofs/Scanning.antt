@@ -24,43 +24,44 @@ use Rattle.theory.proofs.Polynomials.Bound.{before-digit}
 use Rattle.theory.proofs.Polynomials.Highest.{every_next}
 use Rattle.theory.proofs.Polynomials.Orders.{AtMostOrder}
 use Rattle.theory.proofs.Polynomials.Zeros.{no_zero_below}
+use Rattle.solver.specs.declared.entry.Entry.{Entry}
 use Rattle.solver.specs.declared.tree.PrimePower.{PrimePower}
 use Rattle.solver.specs.declared.tree.Node.{Node}
 use Rattle.solver.specs.declared.tree.Settled.{Settled}
-use Rattle.solver.specs.inner.Code.{code}
+use Rattle.solver.specs.inner.Entry.{entry}
 use Rattle.solver.specs.inner.Table.{degree_modulo, zero_digits}
-use Rattle.solver.specs.inner.Recursion.{Primitive, Appended, Done, child_at, within, codes_within}
+use Rattle.solver.specs.inner.Recursion.{Primitive, Appended, Done, child_at, within, entries_within}
 use Rattle.solver.proofs.Appended.{added_none, added_more, added_anew}
 use Rattle.solver.proofs.Node.{within_child}
 use Rattle.solver.proofs.Zeros.{degree_modulo_lem, vanishes_on}
 
 -- the classes of S below these digits are added, and `all` says whether each digit holds all
-pub record Scanned (S : ℕ → Bool) (p : ℕ) (x : Node) (k : ℕ) (digits : List ℕ) (at : ℕ) (all : Bool) (out out' : List ℕ) : Type 0 where
+pub record Scanned (S : ℕ → Bool) (p : ℕ) (x : Node) (k : ℕ) (digits : List ℕ) (at : ℕ) (all : Bool) (out out' : List Entry) : Type 0 where
   pub long : length out' ≡ length out
-  pub added : Appended (codes_within p x (flat (below S p (x.left - 1)) digits)) k at out out'
+  pub added : Appended (entries_within p x (flat (below S p (x.left - 1)) digits)) k at out out'
   pub whole : all ≡ every (λ c. all_below (branch S p c) (p ^ (x.left - 1))) digits
 
 module _ (S : ℕ → Bool) (p : ℕ) (x : Node) (k : ℕ) where
-  pub scanned-none : (out : List ℕ) → Scanned S p x k [] k true out out
+  pub scanned-none : (out : List Entry) → Scanned S p x k [] k true out out
   unfolding flat every
   scanned-none out = record { long = refl; added = added_none k out; whole = refl }
 
   -- the codes below one digit more
   codes-next : (digits : List ℕ) (c : ℕ)
-      → codes_within p x (flat (below S p (x.left - 1)) digits) ++ codes_within p (child_at x p c) (tree (branch S p c) p (x.left - 1))
-      ≡ codes_within p x (flat (below S p (x.left - 1)) (digits ++ (c ∷ [])))
+      → entries_within p x (flat (below S p (x.left - 1)) digits) ++ entries_within p (child_at x p c) (tree (branch S p c) p (x.left - 1))
+      ≡ entries_within p x (flat (below S p (x.left - 1)) (digits ++ (c ∷ [])))
   codes-next digits c =
       let F = below S p (x.left - 1) in
       let T = tree (branch S p c) p (x.left - 1) in
-      let at : Class → ℕ = λ e. code (signed p (within x e)) in
-      ap (λ (l : List ℕ). codes_within p x (flat F digits) ++ l)
-      (map_same (λ (e : Class). code (signed p (within (child_at x p c) e))) (λ (e : Class). at (deeper p c e)) T
-      (λ e u. ap (λ (d : Class). code (signed p d)) (within_child x p c e))
+      let at : Class → Entry = λ e. entry (signed p (within x e)) in
+      ap (λ (l : List Entry). entries_within p x (flat F digits) ++ l)
+      (map_same (λ (e : Class). entry (signed p (within (child_at x p c) e))) (λ (e : Class). at (deeper p c e)) T
+      (λ e u. ap (λ (d : Class). entry (signed p d)) (within_child x p c e))
       ∙ sym (map-map at (deeper p c) T))
       ∙ sym (map-append at (flat F digits) (F c))
-      ∙ ap (codes_within p x) (sym (flat_next F digits c))
+      ∙ ap (entries_within p x) (sym (flat_next F digits c))
 
-  pub scanned-next : (c : ℕ) {digits : List ℕ} {at : ℕ} {all all' : Bool} {r : Settled} {out₀ out out' : List ℕ}
+  pub scanned-next : (c : ℕ) {digits : List ℕ} {at : ℕ} {all all' : Bool} {r : Settled} {out₀ out out' : List Entry}
       → Scanned S p x k digits at all out₀ out → Done (branch S p c) p (child_at x p c) at r out out' → length out' ≡ length out
       → all' ≡ (all && r.whole) → Scanned S p x k (digits ++ (c ∷ [])) r.k all' out₀ out'
   scanned-next c {digits} s d long which =
@@ -87,7 +88,7 @@ module _ {f : List ℕ} {M : PrimePower} {x : Node} (P : Primitive f M x) where
   none : (c : ℕ) → vanishes p f c ≡ false → (y : ℕ) → branch S p c y ≡ false
   none c e = no_zero_below f p M.exponent c P.precise (λ d. contradiction (vanishes_on p f c (mod-eq-zero_of_dvd p d)) e)
 
-  module _ {k at : ℕ} {all : Bool} {out₀ out : List ℕ} where
+  module _ {k at : ℕ} {all : Bool} {out₀ out : List Entry} where
     -- at the digit c room is left for as many classes as the order of f there
     pub scanned-room : {c n : ℕ} → Scanned S p x k (passing (vanishes p f) c 0) at all out₀ out → c < p
         → k + degree_modulo p f ≤ length out₀ → AtMostOrder p n (taylor c f) → at + n ≤ length out
@@ -97,7 +98,7 @@ module _ {f : List ℕ} {M : PrimePower} {x : Node} (P : Primitive f M x) where
           arith,
           s.long,
           s.added.number,
-          length-map (flat F (passing (vanishes p f) c 0)) (λ (e : Class). code (signed p (within x e))),
+          length-map (flat F (passing (vanishes p f) c 0)) (λ (e : Class). entry (signed p (within x e))),
           ap length (concat-digits S p (x.left - 1) hp (vanishes p f) none c),
           before-digit p P.at.modulus.prime M.exponent (x.left - 1) (degree_modulo p f) c n f P.precise
               (degree_modulo_lem p f P.nonzero) c_lt order,
@@ -118,6 +119,6 @@ module _ {f : List ℕ} {M : PrimePower} {x : Node} (P : Primitive f M x) where
           record { added = rw T s.added; is_whole = sym w }
 
 -- a class put after the first k anew
-pub scanned_put : {S : ℕ → Bool} {p k at : ℕ} {x : Node} {digits : List ℕ} {all : Bool} {r : Settled} {out₀ out out' : List ℕ}
+pub scanned_put : {S : ℕ → Bool} {p k at : ℕ} {x : Node} {digits : List ℕ} {all : Bool} {r : Settled} {out₀ out out' : List Entry}
     → Scanned S p x k digits at all out₀ out → k ≤ length out₀ → Done S p x k r out out' → Done S p x k r out₀ out'
 scanned_put s fits d = record { added = added_anew s.added fits d.added; is_whole = d.is_whole }

@@ -1,13 +1,12 @@
 -- One class settled: whole at once, not at all, or after a division by the common power of p.
 use mathlib.Core.Path.{◌≡◌, refl, sym, ap, ◌∙◌}
 use mathlib.Core.Bool.{Bool, true, false}
-use mathlib.Core.List.{List, map}
-use Prim.Native.Nat.{ℕ, zero, suc, ◌+◌, ◌-◌, ◌*◌, ◌/◌, ◌^◌, ◌≤◌, ◌<◌, ◌∣◌}
+use mathlib.Core.List.{List, [], ◌∷◌, map}
+use Prim.Native.Nat.{ℕ, ◌+◌, ◌-◌, ◌*◌, ◌/◌, ◌^◌, ◌≤◌, ◌<◌, ◌∣◌}
 use native.Mathlib.Nat.{div-le_self, div-lt_iff_lt-mul, le_trans, mul-div_cancel, pow-le-pow_right, pow-zero}
 use native.Mathlib.Omega.{arith}
 use lib.Dec.{eqb}
-use lib.ListN.{length, length-map, get_or, take}
-use lib.Seq.{get_or-take}
+use lib.ListN.{length, length-map}
 use Rattle.theory.specs.Range.{all_below}
 use Rattle.theory.specs.Polynomial.{zeros}
 use Rattle.theory.specs.Degree.{least_valuation, primitive, degree_bound, all_zero, every}
@@ -23,6 +22,7 @@ use Rattle.theory.proofs.Polynomials.Degree.{least-valuation-dvd, least-valuatio
 use Rattle.theory.proofs.Polynomials.Highest.{some-map, highest-map}
 use Rattle.theory.proofs.Polynomials.Zeros.{zeros-all, zeros_constant, zeros-divided}
 use Rattle.theory.proofs.Live.Carried.{live-divided}
+use Rattle.solver.specs.declared.entry.Entry.{Entry}
 use Rattle.solver.specs.declared.tree.PrimePower.{PrimePower}
 use Rattle.solver.specs.declared.tree.Node.{Node}
 use Rattle.solver.specs.inner.Table.{Below, prime_to, degree_modulo, nonzero_modulo}
@@ -31,11 +31,11 @@ use Rattle.solver.proofs.Tables.{below_entry}
 use Rattle.solver.proofs.Appended.{added_none}
 use Rattle.solver.proofs.Most.{most_some, tree-most}
 
--- the constant coefficient is the table's first entry
-pub first_entry : (len : ℕ) (g : List ℕ) → all_zero (take len g) ≡ false → coef (take len g) 0 ≡ get_or g 0 0
+-- where a coefficient is not zero there is one
+pub some_length : (g : List ℕ) → all_zero g ≡ false → 0 < length g
 unfolding all_zero every
-first_entry zero g z = absurd (contradiction refl z)
-first_entry (suc len) g z = get_or-take (suc len) g 0 0 (omega arith)
+some_length [] z = absurd (contradiction refl z)
+some_length (a ∷ g) z = omega arith
 
 module _ {f : List ℕ} {M : PrimePower} {x : Node} (N : AtNode f M x) where
   abbrev p : ℕ
@@ -60,7 +60,7 @@ module _ {f : List ℕ} {M : PrimePower} {x : Node} (N : AtNode f M x) where
   pub last-whole : x.left ≡ 0 → all_below S (p ^ x.left) ≡ eqb (coef f 0) 0
   last-whole z = rw (z, pow-zero p) (all_one S ∙ zeros_constant f p e (below.at 0))
 
-  pub last_none : (k live : ℕ) (out : List ℕ) → x.left ≡ 0 → all_below S (p ^ x.left) ≡ false
+  pub last_none : (k live : ℕ) (out : List Entry) → x.left ≡ 0 → all_below S (p ^ x.left) ≡ false
       → Done S p x k (record { k = k; whole = false; live = live }) out out
   last_none k live out z w = record { added = rw (z, tree_none S p (rw z at w)) (added_none k out); is_whole = sym w }
 

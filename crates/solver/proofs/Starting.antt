@@ -21,12 +21,13 @@ use Rattle.theory.proofs.Numbers.Power.{base_dvd}
 use Rattle.theory.proofs.Classes.Concat.{flat_next}
 use Rattle.theory.proofs.Polynomials.Congruence.{SameModulo, zeros_same}
 use Rattle.theory.proofs.Polynomials.Zeros.{zeros-branch_at}
+use Rattle.solver.specs.declared.entry.Entry.{Entry}
 use Rattle.solver.specs.declared.tree.PrimePower.{PrimePower}
 use Rattle.solver.specs.declared.tree.Settled.{Settled}
-use Rattle.solver.specs.inner.Code.{code}
+use Rattle.solver.specs.inner.Entry.{entry}
 use Rattle.solver.specs.inner.Table.{Residues}
-use Rattle.solver.specs.inner.Recursion.{IsPrimePower, IsNode, AtNode, Appended, Done, most_classes, within, codes_within}
-use Rattle.solver.specs.inner.Start.{node_at, shifted_length, codes_of}
+use Rattle.solver.specs.inner.Recursion.{IsPrimePower, IsNode, AtNode, Appended, Done, most_classes, within, entries_within}
+use Rattle.solver.specs.inner.Start.{node_at, shifted_length, entries_of}
 use Rattle.solver.proofs.Tables.{residues-below, residues_same}
 use Rattle.solver.proofs.Shift.{shifted_end, shifted_beyond}
 use Rattle.solver.proofs.Appended.{added_none, added_more}
@@ -59,9 +60,9 @@ beyond p e a (suc t) f i h =
 
 -- the codes of the classes below a node are those of the classes inside its class
 codes_below : (S : ℕ → Bool) (p n : ℕ) (c : Class)
-    → codes_within p (node_at p n c) (tree (branch_at S p c) p (node_at p n c).left) ≡ codes_of p (tree_below S p n c)
+    → entries_within p (node_at p n c) (tree (branch_at S p c) p (node_at p n c).left) ≡ entries_of p (tree_below S p n c)
 unfolding tree_below under within
-codes_below S p n c = sym (map-map (λ (d : Class). code (signed p d)) (under p c) (tree (branch_at S p c) p (node_at p n c).left))
+codes_below S p n c = sym (map-map (λ (d : Class). entry (signed p d)) (under p c) (tree (branch_at S p c) p (node_at p n c).left))
 
 module _ {M : PrimePower} (I : IsPrimePower M) {c : Class} (C : IsClass M.p M.exponent c) where
   abbrev p : ℕ
@@ -97,9 +98,9 @@ module _ {M : PrimePower} (I : IsPrimePower M) {c : Class} (C : IsClass M.p M.ex
     pub start-most : length f ≤ 65 → most_classes M.p g ≤ 64
     start-most h = most-length p I.prime g 64 (omega arith) (short h)
 
-    pub start-added : {k : ℕ} {s : Settled} {out out' : List ℕ}
+    pub start-added : {k : ℕ} {s : Settled} {out out' : List Entry}
         → Done (zeros g M.p M.exponent) M.p (node_at M.p M.exponent c) k s out out'
-        → Appended (codes_of M.p (tree_below (zeros f M.p M.exponent) M.p M.exponent c)) k s.k out out'
+        → Appended (entries_of M.p (tree_below (zeros f M.p M.exponent) M.p M.exponent c)) k s.k out out'
     start-added d = rw (← codes_below (zeros f p e) p e c) (rw start-zeros at d.added)
 
 -- One given class after the other
@@ -113,31 +114,31 @@ front_fewer f (c ∷ G) (suc i) =
     omega (arith, front_fewer f G i, length-append (f c) (flat f (take i G)), length-append (f c) (flat f G))
 
 module _ (S : ℕ → Bool) (p n : ℕ) where
-  pub started_none : (G : List Class) (out : List ℕ) → Appended (codes_of p (started S p n (take 0 G))) 0 0 out out
+  pub started_none : (G : List Class) (out : List Entry) → Appended (entries_of p (started S p n (take 0 G))) 0 0 out out
   unfolding started flat
   started_none G out = added_none 0 out
 
-  pub started-next : (G : List Class) (i : ℕ) {c : Class} {k k' : ℕ} {out₀ out out' : List ℕ} → i < length G → slot G i ≡ c
-      → Appended (codes_of p (started S p n (take i G))) 0 k out₀ out → Appended (codes_of p (tree_below S p n c)) k k' out out'
-      → Appended (codes_of p (started S p n (take (i + 1) G))) 0 k' out₀ out'
+  pub started-next : (G : List Class) (i : ℕ) {c : Class} {k k' : ℕ} {out₀ out out' : List Entry} → i < length G → slot G i ≡ c
+      → Appended (entries_of p (started S p n (take i G))) 0 k out₀ out → Appended (entries_of p (tree_below S p n c)) k k' out out'
+      → Appended (entries_of p (started S p n (take (i + 1) G))) 0 k' out₀ out'
   unfolding started
   started-next G i {c} h at old new =
       let front = take i G in
-      let step : codes_of p (started S p n (take (i + 1) G)) ≡ codes_of p (started S p n front) ++ codes_of p (tree_below S p n c) =
-      ap (λ (l : List Class). codes_of p (started S p n l)) (take_next G i (class 0 0) h)
-      ∙ ap (λ (d : Class). codes_of p (started S p n (front ++ (d ∷ [])))) at
-      ∙ ap (codes_of p) (flat_next (tree_below S p n) front c)
-      ∙ map-append (λ (d : Class). code (signed p d)) (started S p n front) (tree_below S p n c) in
+      let step : entries_of p (started S p n (take (i + 1) G)) ≡ entries_of p (started S p n front) ++ entries_of p (tree_below S p n c) =
+      ap (λ (l : List Class). entries_of p (started S p n l)) (take_next G i (class 0 0) h)
+      ∙ ap (λ (d : Class). entries_of p (started S p n (front ++ (d ∷ [])))) at
+      ∙ ap (entries_of p) (flat_next (tree_below S p n) front c)
+      ∙ map-append (λ (d : Class). entry (signed p d)) (started S p n front) (tree_below S p n c) in
       rw step (added_more old new)
 
-  pub started-room : (G : List Class) (i room : ℕ) {k : ℕ} {out₀ out : List ℕ}
-      → Appended (codes_of p (started S p n (take i G))) 0 k out₀ out → length (started S p n G) + room ≤ length out₀
+  pub started-room : (G : List Class) (i room : ℕ) {k : ℕ} {out₀ out : List Entry}
+      → Appended (entries_of p (started S p n (take i G))) 0 k out₀ out → length (started S p n G) + room ≤ length out₀
       → length out ≡ length out₀ → k + room ≤ length out
   unfolding started
   started-room G i room old fits long =
       omega (
         arith,
         old.number,
-        length-map (started S p n (take i G)) (λ (d : Class). code (signed p d)),
+        length-map (started S p n (take i G)) (λ (d : Class). entry (signed p d)),
         front_fewer (tree_below S p n) G i,
       )

@@ -1,10 +1,12 @@
 -- The class of everything, at which the recursion starts, and what is there when it ends.
+use Rattle.std.specs.Prelude.{IsPermutation, IsSortedByKey}
+use Rattle.std.specs.Ordering.{int_cmp}
 use mathlib.Core.Path.{◌≡◌, sym, ap, ◌∙◌}
-use mathlib.Core.List.{List, ◌++◌, map}
+use mathlib.Core.List.{List, map}
 use Prim.Native.Nat.{ℕ, ◌≤◌}
 use native.Mathlib.Nat.{pow-zero, zero-add}
 use native.Mathlib.Omega.{arith}
-use lib.ListN.{length, length-map, take, drop}
+use lib.ListN.{length, length-map, take}
 use Rattle.theory.specs.Polynomial.{zeros}
 use Rattle.theory.specs.Class.{Class}
 use Rattle.theory.specs.Shortest.{shortest}
@@ -15,33 +17,25 @@ use Rattle.theory.proofs.Lists.Permutation.{perm_length}
 use Rattle.theory.proofs.Numbers.Prime.{prime_pos}
 use Rattle.theory.proofs.Classes.Equal.{class_equal}
 use Rattle.theory.proofs.Classes.Tree.{tree-perm}
+use Rattle.theory.proofs.Signed.List.{signed-rising}
 use Rattle.theory.proofs.Signed.Entries.{tree-signed}
 use Rattle.numbers.specs.inner.Usable.{Usable}
-use Rattle.solver.specs.declared.tree.PrimePower.{PrimePower}
-use Rattle.solver.specs.declared.tree.Node.{Node}
+use Rattle.solver.specs.declared.entry.Entry.{Entry}
 use Rattle.solver.specs.declared.tree.Settled.{Settled}
 use Rattle.solver.specs.inner.Table.{Below}
-use Rattle.solver.specs.inner.Code.{code}
-use Rattle.solver.specs.inner.Sort.{sorted}
-use Rattle.solver.specs.inner.Recursion.{AtNode, Done, most_classes, within, codes_within}
+use Rattle.solver.specs.inner.Entry.{entry}
+use Rattle.solver.specs.inner.Recursion.{over, everything, AtNode, Done, most_classes, within, entries_within}
 use Rattle.solver.specs.inner.Reduced.{zero_classes}
-use Rattle.solver.proofs.Codes.{sorted_front}
+use Rattle.solver.proofs.Entries.{residue, put_in_order}
 use Rattle.solver.proofs.Most.{most-length, tree-most}
 
--- the modulus pⁿ
-abbrev pub over : ℕ → ℕ → ℕ → PrimePower
-over p n m = record { p = p; exponent = n; power = m }
-
-abbrev pub everything : ℕ → Node
-everything n = record { residue = 0; power = 1; level = 0; left = n }
-
 -- it holds each class as it is
-codes_top : (p n : ℕ) (L : List Class) → codes_within p (everything n) L ≡ map code (map (signed p) L)
+codes_top : (p n : ℕ) (L : List Class) → entries_within p (everything n) L ≡ map entry (map (signed p) L)
 unfolding within
 codes_top p n L =
-    map_same (λ (c : Class). code (signed p (within (everything n) c))) (λ (c : Class). code (signed p c)) L
-    (λ c u. ap (λ (d : Class). code (signed p d)) (class_equal (omega arith) (omega arith)))
-    ∙ sym (map-map code (signed p) L)
+    map_same (λ (c : Class). entry (signed p (within (everything n) c))) (λ (c : Class). entry (signed p c)) L
+    (λ c u. ap (λ (d : Class). entry (signed p d)) (class_equal (omega arith) (omega arith)))
+    ∙ sym (map-map entry (signed p) L)
 
 module _ {w : List ℕ} {p n m : ℕ} (U : Usable p n m) (short : length w ≤ 65) (b : Below m w) where
   pub top-at : AtNode w (over p n m) (everything n)
@@ -66,11 +60,11 @@ module _ {w : List ℕ} {p n m : ℕ} (U : Usable p n m) (short : length w ≤ 6
         top-most,
       )
 
-  module _ {r : Settled} {out out' : List ℕ} (d : Done (zeros w p n) p (everything n) 0 r out out') where
-    codes : take r.k out' ≡ map code (map (signed p) (tree (zeros w p n) p n))
+  module _ {r : Settled} {out out' : List Entry} (d : Done (zeros w p n) p (everything n) 0 r out out') where
+    codes : take r.k out' ≡ map entry (map (signed p) (tree (zeros w p n) p n))
     codes = d.added.entries ∙ codes_top p n (tree (zeros w p n) p n)
 
-    number : r.k ≡ length (map code (map (signed p) (tree (zeros w p n) p n)))
+    number : r.k ≡ length (map entry (map (signed p) (tree (zeros w p n) p n)))
     number = d.added.number ∙ zero-add _ ∙ ap length (codes_top p n (tree (zeros w p n) p n))
 
     pub top-few : r.k ≤ 64
@@ -78,15 +72,15 @@ module _ {w : List ℕ} {p n m : ℕ} (U : Usable p n m) (short : length w ≤ 6
         omega (
           arith,
           number,
-          length-map (map (signed p) (tree (zeros w p n) p n)) code,
+          length-map (map (signed p) (tree (zeros w p n) p n)) entry,
           length-map (tree (zeros w p n) p n) (signed p),
           tree-most p U.prime w n n (rw (← U.power) b),
           top-most,
         )
 
     -- after the sort
-    pub top-sorted : {out'' : List ℕ} → out'' ≡ sorted (take r.k out') ++ drop r.k out'
-        → take r.k out'' ≡ map code (zero_classes w p n)
-    top-sorted s =
+    pub top-sorted : (out'' : List Entry) → IsPermutation (take r.k out') (take r.k out'') → IsSortedByKey residue int_cmp (take r.k out'')
+        → take r.k out'' ≡ map entry (zero_classes w p n)
+    top-sorted out'' moved up =
         let S = zeros w p n in
-        sorted_front S U (map (signed p) (tree S p n)) (tree-signed S p n U.prime.two) r.k out' codes number s
+        put_in_order (zero_classes w p n) (map (signed p) (tree S p n)) (signed-rising S p n) (tree-signed S p n U.prime.two) _ _ codes moved up

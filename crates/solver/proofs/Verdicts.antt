@@ -1,4 +1,5 @@
 -- What the solver and the test of a residue answer, by their rules: those on a polynomial, p and n first.
+use Rattle.std.specs.Prelude.{Ok, Err}
 use mathlib.Core.Path.{◌≡◌, refl, sym, ap, ◌∙◌}
 use mathlib.Core.List.{List, [], ◌∷◌, ◌++◌}
 use Prim.Native.Nat.{ℕ, suc, ◌+◌, ◌^◌, ◌≤◌, ◌<◌, min}
@@ -19,41 +20,39 @@ use Rattle.theory.proofs.Numbers.Prime.{prime_pos}
 use Rattle.theory.proofs.Counts.{row_length, row_at, solutions-zeros}
 use Rattle.refusal.specs.declared.Refusal.{Refusal}
 use Rattle.refusal.specs.declared.Refusal.TheVariants.{NoCoefficient, TooManyCoefficients, Lengths, TooFewSlots}
-use Rattle.refusal.specs.Rules.{Verdict, passes, refuses, tried, rule2, rule3, rule8, rule11}
-use Rattle.refusal.proofs.Rules.{rule2_refuses, rule2_passes, rule3_refuses, coefficients_lead, rule_passes}
+use Rattle.refusal.specs.Rules.{Verdict, passes, refuses, tried, rule2, rule3, rule8, rule11, value_or}
+use Rattle.refusal.proofs.Rules.{rule2_refuses, rule2_passes, rule3_refuses, coefficients_lead, rule_passes, value_passes, value_refuses}
 use Rattle.refusal.proofs.Rules.{tried_leads, tried_refuses, tried-first}
 use Rattle.refusal.proofs.Rules.{rule6_three_refuses, rule6_three_passes, rule11_refuses, rule11_passes}
-use Rattle.numbers.specs.declared.Modulus.TheVariants as modulus
-use Rattle.numbers.specs.Modulus.{modulus_rules, modulus_of, power_or}
-use Rattle.numbers.proofs.Rules.{accepted_means, refused_means, passes-usable}
-use Rattle.solver.specs.declared.Solved.TheVariants.{Refused}
-use Rattle.solver.specs.declared.Tested.TheVariants as tested
-use Rattle.solver.specs.declared.Tabulated.TheVariants as tabulated
-use Rattle.solver.specs.Solve.{Lists, polynomial_rules, list_rules, lists_filled, solution, marks_of, found_or, solver_verdict, solved_of}
-use Rattle.solver.specs.Solve.{lists_after, yes_or, test_verdict, tested_of}
+use Rattle.numbers.specs.Modulus.{modulus_rules, modulus_of}
+use Rattle.numbers.proofs.Rules.{passes-usable}
+use Rattle.solver.specs.Solve.{Lists, polynomial_rules, list_rules, lists_filled, solution, marks_of, found, solver_verdict, solved_of}
+use Rattle.solver.specs.Solve.{lists_after, test_verdict, tested_of}
 use Rattle.solver.specs.Counts.{counts_verdict, tabulated_of, counts_after}
 use Rattle.solver.specs.inner.UsablePolynomial.{polynomial_modulus, UsablePolynomial}
 use Rattle.solver.specs.inner.Reduced.{zero_classes, reduced_verdict, reduced_solved, reduced_lists}
 
+-- What a value or a refusal says of the verdict
+
 -- The rules on a polynomial, p and n
 
 module _ (f : List ℤ) (p n : ℕ) where
-  pub none-given : length f ≡ 0 → polynomial_modulus f p n ≡ modulus.Refused NoCoefficient
+  pub none-given : length f ≡ 0 → polynomial_modulus f p n ≡ Err NoCoefficient
   unfolding polynomial_modulus
   none-given e = rw (rule2_refuses (length f) e)
 
-  pub many-given : 65 < length f → polynomial_modulus f p n ≡ modulus.Refused TooManyCoefficients
+  pub many-given : 65 < length f → polynomial_modulus f p n ≡ Err TooManyCoefficients
   unfolding polynomial_modulus
   many-given h = rw (rule2_passes (length f) (λ e. omega arith), rule3_refuses (length f) h)
 
   pub counted : (length f ≡ 0 → ⊥) → length f ≤ 65 → polynomial_modulus f p n ≡ modulus_of p n
   unfolding polynomial_modulus modulus_of
-  counted some few = ap (λ (v : Verdict). power_or v (p ^ n)) (coefficients_lead (length f) some few (modulus_rules p n))
+  counted some few = ap (λ (v : Verdict). value_or v (p ^ n)) (coefficients_lead (length f) some few (modulus_rules p n))
 
-  pub usable-polynomial : (m : ℕ) → polynomial_modulus f p n ≡ modulus.Accepted m → UsablePolynomial f p n m
+  pub usable-polynomial : (m : ℕ) → polynomial_modulus f p n ≡ Ok m → UsablePolynomial f p n m
   unfolding polynomial_modulus
   usable-polynomial m e =
-      let both = accepted_means (tried (polynomial_rules f p n)) (p ^ n) m e in
+      let both = value_passes (tried (polynomial_rules f p n)) (p ^ n) m e in
       let two = tried-first (rule2 (length f)) (rule3 (length f) ∷ modulus_rules p n) both.0 in
       let three = tried-first (rule3 (length f)) (modulus_rules p n) two.1 in
       record {
@@ -67,17 +66,17 @@ module _ (f : List ℤ) (p n : ℕ) where
       positive h = omega arith
 
   -- a refusal is that of any longer list
-  pub polynomial-refused : (r : Refusal) → polynomial_modulus f p n ≡ modulus.Refused r → (rest : List Verdict)
+  pub polynomial-refused : (r : Refusal) → polynomial_modulus f p n ≡ Err r → (rest : List Verdict)
       → tried (polynomial_rules f p n ++ rest) ≡ refuses r
   unfolding polynomial_modulus
-  polynomial-refused r e rest = tried_refuses (polynomial_rules f p n) rest r (refused_means (tried (polynomial_rules f p n)) (p ^ n) r e)
+  polynomial-refused r e rest = tried_refuses (polynomial_rules f p n) rest r (value_refuses (tried (polynomial_rules f p n)) (p ^ n) r e)
 
 -- The solver
 
 module _ (f : List ℤ) (p n : ℕ) (given : Lists) where
   -- a refusal alters nothing
-  pub solve-refused : (r : Refusal) → polynomial_modulus f p n ≡ modulus.Refused r
-      → (Refused r ≡ solved_of f p n given) × (given ≡ lists_after f p n given)
+  pub solve-refused : (r : Refusal) → polynomial_modulus f p n ≡ Err r
+      → (Err r ≡ solved_of f p n given) × (given ≡ lists_after f p n given)
   unfolding solver_verdict solved_of lists_after
   solve-refused r e = rw (polynomial-refused f p n r e (list_rules given (length (solution f p n)))) (refl, refl)
 
@@ -89,7 +88,7 @@ module _ (f : List ℤ) (p n : ℕ) (given : Lists) where
 
     pub solved-is : solved_of f p n given ≡ reduced_solved (reduced f p n) p n given
     unfolding solved_of solution roots live
-    solved-is = ap (λ (v : Verdict). found_or v (length (solution f p n)) (count (roots f p n) p n) (live f p n)) verdict-is
+    solved-is = ap (λ (v : Verdict). value_or v (found (length (solution f p n)) (count (roots f p n) p n) (live f p n))) verdict-is
 
     pub lists-are : lists_after f p n given ≡ reduced_lists (reduced f p n) p n given
     unfolding lists_after solution roots mark
@@ -112,13 +111,13 @@ module _ (w : List ℕ) (p n : ℕ) (given : Lists) where
 
   -- rule 6
   pub lengths-refused : {x : ℕ} → x ≡ min slots (min levels marks) → (slots ≡ levels → slots ≡ marks → ⊥)
-      → (Refused (Lengths x) ≡ reduced_solved w p n given) × (given ≡ reduced_lists w p n given)
+      → (Err (Lengths x) ≡ reduced_solved w p n given) × (given ≡ reduced_lists w p n given)
   unfolding reduced_verdict
   lengths-refused x-is h = rw (x-is, rule6_three_refuses slots levels marks h) (refl, refl)
 
   module _ (d : slots ≡ levels) (e : slots ≡ marks) {x : ℕ} (x-is : x ≡ k) where
     -- rule 11
-    pub slots-refused : slots < x → (Refused (TooFewSlots x) ≡ reduced_solved w p n given) × (given ≡ reduced_lists w p n given)
+    pub slots-refused : slots < x → (Err (TooFewSlots x) ≡ reduced_solved w p n given) × (given ≡ reduced_lists w p n given)
     unfolding reduced_verdict
     slots-refused h = rw (x-is, rule6_three_passes slots levels marks d e, rule11_refuses slots k (omega arith)) (refl, refl)
 
@@ -129,24 +128,24 @@ module _ (w : List ℕ) (p n : ℕ) (given : Lists) where
 -- The test of a residue
 
 module _ (f : List ℤ) (p n point : ℕ) where
-  pub test-refused : (r : Refusal) → polynomial_modulus f p n ≡ modulus.Refused r → tested.Refused r ≡ tested_of f p n point
+  pub test-refused : (r : Refusal) → polynomial_modulus f p n ≡ Err r → Err r ≡ tested_of f p n point
   unfolding test_verdict tested_of
   test-refused r e = rw (polynomial-refused f p n r e (rule8 point (p ^ n) ∷ []))
 
   -- where these rules pass, rule 8 and the value decide
   pub tested-is : {m : ℕ} → UsablePolynomial f p n m
-      → tested_of f p n point ≡ yes_or (tried (rule8 point m ∷ [])) (roots f p n point)
+      → tested_of f p n point ≡ value_or (tried (rule8 point m ∷ [])) (roots f p n point)
   unfolding test_verdict tested_of
   tested-is U =
-      ap (λ (v : Verdict). yes_or v (roots f p n point))
+      ap (λ (v : Verdict). value_or v (roots f p n point))
       (tried_leads (polynomial_rules f p n) (rule8 point (p ^ n) ∷ []) U.accepted
       ∙ ap (λ (q : ℕ). tried (rule8 point q ∷ [])) (sym U.modulus.power))
 
 -- The row of counts
 
 module _ (f : List ℤ) (p n : ℕ) (given : List ℕ) where
-  pub counts-refused : (r : Refusal) → polynomial_modulus f p n ≡ modulus.Refused r
-      → (tabulated.Refused r ≡ tabulated_of f p n (length given)) × (given ≡ counts_after f p n given)
+  pub counts-refused : (r : Refusal) → polynomial_modulus f p n ≡ Err r
+      → (Err r ≡ tabulated_of f p n (length given)) × (given ≡ counts_after f p n given)
   unfolding counts_verdict tabulated_of counts_after
   counts-refused r e = rw (polynomial-refused f p n r e (rule11 (length given) (suc n) ∷ [])) (refl, refl)
 
@@ -157,13 +156,13 @@ module _ (f : List ℤ) (p n : ℕ) (given : List ℕ) where
 
     -- rule 11
     pub counts-short : length given < suc n
-        → (tabulated.Refused (TooFewSlots (suc n)) ≡ tabulated_of f p n (length given)) × (given ≡ counts_after f p n given)
+        → (Err (TooFewSlots (suc n)) ≡ tabulated_of f p n (length given)) × (given ≡ counts_after f p n given)
     unfolding tabulated_of counts_after
     counts-short h = rw (left-to-slots, rule11_refuses (length given) (suc n) h) (refl, refl)
 
     pub counts-filled : {after : List ℕ} → suc n ≤ length given
         → Overwritten (λ j. count (zeros (reduced f p n) p j) p j) 0 (suc n) given after
-        → (tabulated.Filled ≡ tabulated_of f p n (length given)) × (after ≡ counts_after f p n given)
+        → (Ok tt ≡ tabulated_of f p n (length given)) × (after ≡ counts_after f p n given)
     unfolding tabulated_of counts_after
     counts-filled h w =
         rw (left-to-slots, rule11_passes (length given) (suc n) h) (

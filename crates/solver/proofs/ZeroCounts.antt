@@ -8,7 +8,6 @@ use native.Mathlib.Nat.{dvd-zero, dvd_trans, pow-zero, mod-eq-zero_of_dvd, mul-d
 use native.Mathlib.Omega.{arith}
 use native.Mathlib.Decide.{ℕ_discrete}
 use lib.ListN.{length, get_or, take}
-use lib.Seq.{take-take}
 use Rattle.theory.specs.Polynomial.{vanishes, zeros}
 use Rattle.theory.specs.Degree.{least_valuation, primitive, all_zero}
 use Rattle.theory.specs.Shortest.{count}
@@ -130,8 +129,8 @@ module _ (h : List ℕ) (p l : ℕ) where
         above = λ k u. refl;
       }
 
-  module _ {M : PrimePower} {x : Node} (digits : List ℕ) (p_is : M.p ≡ p) (left : x.left ≡ suc l) (number i : ℕ) (i_lt : i < number)
-      (fits : number ≤ length digits) (all : take number digits ≡ zero_digits p h) {counts₀ counts : List ℕ} (room : Room h M x counts₀)
+  module _ {M : PrimePower} {x : Node} (digits : List ℕ) (p_is : M.p ≡ p) (left : x.left ≡ suc l) (i : ℕ) (i_lt : i < length digits)
+      (all : digits ≡ zero_digits p h) {counts₀ counts : List ℕ} (room : Room h M x counts₀)
       (so : Plus (so_far (take i digits)) M.exponent counts₀ counts) (g : List ℕ)
       (same : (k : ℕ) → k < M.exponent → zeros_at g p l k ≡ below h p l k (get_or digits i 0)) where
     one_more : (k : ℕ) → so_far (take (i + 1) digits) k ≡ so_far (take i digits) k + below h p l k (get_or digits i 0)
@@ -139,11 +138,9 @@ module _ (h : List ℕ) (p l : ℕ) where
 
     most : (k : ℕ) → so_far (take (i + 1) digits) k ≤ zeros_at h M.p x.left k
     most k =
-        let taken : take (i + 1) digits ≡ take (i + 1) (zero_digits p h) =
-        sym (take-take (i + 1) number digits (omega arith)) ∙ ap (take (i + 1)) all in
         omega (
           arith,
-          ap (λ (d : List ℕ). so_far d k) taken,
+          ap (λ (d : List ℕ). so_far (take (i + 1) d) k) all,
           sum_over_taken (below h p l k) (i + 1) (zero_digits p h),
           zeros_digits h p l k,
           ap₂ (λ (q n : ℕ). zeros_at h q n k) p_is left,

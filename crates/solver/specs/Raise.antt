@@ -1,18 +1,17 @@
 -- Raising the precision of a list (02, 2.9).
-use Rattle.std.specs.Prelude.{Bool, ◌&&◌, List, [], ◌∷◌, ◌++◌, map, ℕ, ℤ, length}
+use Rattle.std.specs.Prelude.{Bool, ◌&&◌, List, [], ◌∷◌, ◌++◌, map, ℕ, ℤ, length, Result, Ok, Err}
+use Rattle.solver.specs.declared.Listed.{Listed}
+use Rattle.solver.specs.declared.Found.{Found}
+use Rattle.refusal.specs.declared.Refusal.{Refusal}
 use Rattle.theory.specs.Polynomial.{roots}
 use Rattle.theory.specs.ClassList.{members}
 use Rattle.theory.specs.SignedClass.{SignedClass, natural, naturals}
 use Rattle.theory.specs.SignedList.{signed_list}
 use Rattle.theory.specs.Shortest.{count}
 use Rattle.theory.specs.Mark.{mark}
-use Rattle.refusal.specs.Rules.{Verdict, passes, refuses, tried, rule6, rule6_three, rule11, rule17}
+use Rattle.refusal.specs.Rules.{Verdict, value_or, tried, rule6, rule6_three, rule11, rule17}
 use Rattle.numbers.specs.Modulus.{rule5}
 use Rattle.classes.specs.Rule7.{classes_of, rule7}
-use Rattle.solver.specs.declared.Solved.{Solved}
-use Rattle.solver.specs.declared.Solved.TheVariants as solved
-use Rattle.solver.specs.declared.raise.Raised.{Raised}
-use Rattle.solver.specs.declared.raise.Raised.TheVariants.{Found, Refused}
 use Rattle.solver.specs.Solve.{Lists, polynomial_rules, lists_filled}
 
 -- "the roots modulo p^m that are congruent to a modulo p^t for some given class a/t"
@@ -46,21 +45,20 @@ raise_verdict f p n m residues levels lent =
     ∷ [])
 
 -- "whatever fills lists … returns k and the root count" (2.6)
-abbrev pub raised_or : Verdict → ℕ → ℕ → Raised
-raised_or passes k roots = Found k roots
-raised_or (refuses r) k roots = Refused r
+abbrev pub listed : (classes roots : ℕ) → Listed
+listed classes roots = record { classes = classes; roots = roots }
 
 -- the solver's answer in these terms, without the number of live classes: "If the given list is that of f at n, result and count equal the
 -- fresh ones at m"
-abbrev pub without_live : Solved → Raised
-without_live (solved.Found k roots live) = Found k roots
-without_live (solved.Refused r) = Refused r
+abbrev pub without_live : Result Found Refusal → Result Listed Refusal
+without_live (Ok found) = Ok (listed found.classes found.roots)
+without_live (Err r) = Err r
 
 -- what a call answers
-unfoldable pub raised_of : List ℤ → ℕ → (n m : ℕ) → List ℤ → List ℕ → Lists → Raised
+unfoldable pub raised_of : List ℤ → ℕ → (n m : ℕ) → List ℤ → List ℕ → Lists → Result Listed Refusal
 raised_of f p n m residues levels lent =
     let G = classes_of residues levels in
-    raised_or (raise_verdict f p n m residues levels lent) (length (raised f p m G)) (count (roots_among f p m G) p m)
+    value_or (raise_verdict f p n m residues levels lent) (listed (length (raised f p m G)) (count (roots_among f p m G) p m))
 
 -- and what the three lists hold after it
 unfoldable pub raised_lists : List ℤ → ℕ → (n m : ℕ) → List ℤ → List ℕ → Lists → Lists

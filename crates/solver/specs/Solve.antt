@@ -1,17 +1,15 @@
 -- The solver and the test of a residue (01, "Lent lists, map and text" and "When the solver declines").
-use Rattle.std.specs.Prelude.{Bool, true, false, List, [], ◌∷◌, ◌++◌, map, ℕ, ◌^◌, ℤ, length}
+use Rattle.std.specs.Prelude.{Bool, List, [], ◌∷◌, ◌++◌, map, ℕ, ◌^◌, ℤ, length, Result}
+use Rattle.solver.specs.declared.Found.{Found}
+use Rattle.refusal.specs.declared.Refusal.{Refusal}
 use Rattle.theory.specs.Polynomial.{roots}
 use Rattle.theory.specs.SignedClass.{SignedClass, natural, residues_of, levels_of}
 use Rattle.theory.specs.SignedList.{signed_list}
 use Rattle.theory.specs.Shortest.{count}
 use Rattle.theory.specs.Mark.{mark}
 use Rattle.theory.specs.Live.{live}
-use Rattle.refusal.specs.Rules.{Verdict, passes, refuses, tried, filled, rule2, rule3, rule6_three, rule8, rule11}
+use Rattle.refusal.specs.Rules.{Verdict, tried, filled, rule2, rule3, rule6_three, rule8, rule11, value_or}
 use Rattle.numbers.specs.Modulus.{modulus_rules}
-use Rattle.solver.specs.declared.Solved.{Solved}
-use Rattle.solver.specs.declared.Solved.TheVariants.{Found, Refused}
-use Rattle.solver.specs.declared.Tested.{Tested}
-use Rattle.solver.specs.declared.Tested.TheVariants as tested
 
 -- "The solver fills three lists: residues (32 bits), levels and marks (8 bits each)"; the residues are signed (02, 2.7)
 pub record Lists : Type 0 where
@@ -51,14 +49,13 @@ unfoldable pub solver_verdict : List ℤ → ℕ → ℕ → Lists → Verdict
 solver_verdict f p n given = tried (polynomial_rules f p n ++ list_rules given (length (solution f p n)))
 
 -- "It returns k and the root count", and "The solver shall report the number of live classes" (02, 2.8)
-abbrev pub found_or : Verdict → ℕ → ℕ → ℕ → Solved
-found_or passes k roots live = Found k roots live
-found_or (refuses r) k roots live = Refused r
+abbrev pub found : (classes roots live : ℕ) → Found
+found classes roots live = record { classes = classes; roots = roots; live = live }
 
 -- what a call of the solver answers
-unfoldable pub solved_of : List ℤ → ℕ → ℕ → Lists → Solved
+unfoldable pub solved_of : List ℤ → ℕ → ℕ → Lists → Result Found Refusal
 solved_of f p n given =
-    found_or (solver_verdict f p n given) (length (solution f p n)) (count (roots f p n) p n) (live f p n)
+    value_or (solver_verdict f p n given) (found (length (solution f p n)) (count (roots f p n) p n) (live f p n))
 
 -- and what the three lists hold after it
 unfoldable pub lists_after : List ℤ → ℕ → ℕ → Lists → Lists
@@ -68,11 +65,5 @@ lists_after f p n given = lists_filled (solver_verdict f p n given) (solution f 
 unfoldable pub test_verdict : List ℤ → ℕ → ℕ → ℕ → Verdict
 test_verdict f p n point = tried (polynomial_rules f p n ++ rule8 point (p ^ n) ∷ [])
 
--- "says yes exactly if pⁿ divides f there"
-abbrev pub yes_or : Verdict → Bool → Tested
-yes_or passes true = tested.Yes
-yes_or passes false = tested.No
-yes_or (refuses r) root = tested.Refused r
-
-unfoldable pub tested_of : List ℤ → ℕ → ℕ → ℕ → Tested
-tested_of f p n point = yes_or (test_verdict f p n point) (roots f p n point)
+unfoldable pub tested_of : List ℤ → ℕ → ℕ → ℕ → Result Bool Refusal
+tested_of f p n point = value_or (test_verdict f p n point) (roots f p n point)

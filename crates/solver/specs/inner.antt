@@ -1,8 +1,7 @@
 -- The words of the inner functions' contracts. Nobody has to believe them: they stand between the code and `Solve`.
 pub mod Table
 pub mod Marks
-pub mod Code
-pub mod Sort
+pub mod Entry
 pub mod Recursion
 pub mod Reduced
 pub mod UsablePolynomial

@@ -32,10 +32,8 @@ fn values(g: &[u32], p: u64, row: &mut [u32])
     ensures { Overwritten (λ i. value_of g.now i % p) 0 (length row.old) row.old
         row.new }
 {
-    let mut i: usize = 0;
-    while i < row.len() {
-        row[i] = polynomial::value(g, i as u64, p) as u32;
-        i += 1;
+    for (i, entry) in row.iter_mut().enumerate() {
+        *entry = polynomial::value(g, i as u64, p) as u32;
     }
 }
 
@@ -45,10 +43,8 @@ fn stage(row: &mut [u32], k: usize, p: u32)
     ensures { Overwritten (λ i. (get_or row.old i 0 + (p - 1) * get_or row.old (i - 1) 0) % p)
         (k + 1) (length row.old) row.old row.new }
 {
-    let mut i = row.len() - 1;
-    while k < i {
+    for i in (k + 1..row.len()).rev() {
         row[i] = minus(row[i], row[i - 1], p);
-        i -= 1;
     }
 }
 
@@ -58,10 +54,8 @@ pub(crate) fn first_row(g: &[u32], p: u64, row: &mut [u32])
     ensures { Differences p g.now 0 row.new }
 {
     values(g, p, row);
-    let mut k: usize = 0;
-    while k < row.len() {
+    for k in 0..row.len() {
         stage(row, k, p as u32);
-        k += 1;
     }
 }
 
@@ -71,9 +65,7 @@ pub(crate) fn advance(row: &mut [u32], p: u32)
     ensures { Overwritten (λ i. (get_or row.old i 0 + get_or row.old (i + 1) 0) % p)
         0 (length row.old - 1) row.old row.new }
 {
-    let mut j: usize = 0;
-    while j + 1 < row.len() {
-        row[j] = plus(row[j], row[j + 1], p);
-        j += 1;
+    for j in 1..row.len() {
+        row[j - 1] = plus(row[j - 1], row[j], p);
     }
 }

@@ -11,10 +11,8 @@ fn reduce(h: &[u32], p: u64, g: &mut [u32])
     requires { (0 < p) × (length g.old ≤ length h.now) }
     ensures { Residues p g.new h.now }
 {
-    let mut i: usize = 0;
-    while i < g.len() {
+    for i in 0..g.len() {
         g[i] = (h[i] as u64 % p) as u32;
-        i += 1;
     }
 }
 
@@ -47,13 +45,11 @@ fn search(g: &[u32], p: u64, zeros: &mut [u16]) -> usize
     ensures { (result ≤ 64) × (take result zeros.new ≡ zero_digits p g.now) }
 {
     let mut count: usize = 0;
-    let mut c: u64 = 0;
-    while c < p {
+    for c in 0..p {
         if polynomial::value(g, c, p) == 0 {
             zeros[count] = c as u16;
             count += 1;
         }
-        c += 1;
     }
     count
 }
@@ -68,14 +64,12 @@ fn search_by_differences(g: &[u32], p: u64, zeros: &mut [u16]) -> usize
     let len = g.len();
     differences::first_row(g, p, &mut table[..len]);
     let mut count: usize = 0;
-    let mut c: u64 = 0;
-    while c < p {
+    for c in 0..p {
         if table[0] == 0 {
             zeros[count] = c as u16;
             count += 1;
         }
         differences::advance(&mut table[..len], p as u32);
-        c += 1;
     }
     count
 }

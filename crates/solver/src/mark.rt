@@ -4,20 +4,19 @@ ghost use Rattle.theory.specs.Polynomial.{divided, derivative as derivative_of};
 ghost use Rattle.theory.specs.Degree.{primitive};
 ghost use Rattle.solver.specs.inner.Table.{Residues};
 ghost use Rattle.solver.specs.inner.Marks.{mark_at, mark_of_digits, mark_from};
-ghost use Rattle.solver.specs.inner.Code.{class_of, ResiduesFit};
+ghost use Rattle.solver.specs.inner.Entry.{class_of};
 
-use crate::{code, polynomial, valuation};
+use crate::entry::Entry;
+use crate::{polynomial, valuation};
 
 // The derivative of f/q modulo p, one coefficient fewer.
 fn derivative(f: &[u32], q: u64, p: u64, d: &mut [u32])
     requires { (length f.now ≤ 65) × (length d.old ≡ length f.now - 1) × (0 < q) × (0 < p) × (p ≤ 65535) }
     ensures { Residues p d.new (derivative_of (divided q f.now)) }
 {
-    let mut i: usize = 0;
-    while i < d.len() {
+    for i in 0..d.len() {
         let a = f[i + 1] as u64 / q;
         d[i] = ((i as u64 + 1) * (a % p) % p) as u32;
-        i += 1;
     }
 }
 
@@ -26,10 +25,7 @@ fn mark_at(d: &[u32], a: u64, p: u64) -> u8
     requires { (a < p) × (p ≤ 65535) }
     ensures { result ≡ mark_at p d.now a }
 {
-    if polynomial::value(d, a, p) == 0 {
-        return 0;
-    }
-    1
+    (polynomial::value(d, a, p) != 0) as u8
 }
 
 // The mark of everything, by the values at the p digits. Where d is not zero, everything is a listed class only for p up to 64.
@@ -41,42 +37,35 @@ fn mark_of_digits(d: &[u32], p: u64) -> u8
         return 0;
     }
     let first = mark_at(d, 0, p);
-    let mut c: u64 = 1;
-    while c < p {
-        if mark_at(d, c, p) != first {
-            return 2;
-        }
-        c += 1;
+    if (1..p).any(|c| mark_at(d, c, p) != first) {
+        return 2;
     }
     first
 }
 
-// The mark of the class with this code.
-fn mark(d: &[u32], code: u64, p: u64) -> u8
-    requires { (0 < p) × (p ≤ 65535) × (code / 256 < 4294967296) }
-    ensures { result ≡ mark_from p d.now (class_of code) }
+// The mark of an entry's class.
+fn mark(d: &[u32], entry: Entry, p: u64) -> u8
+    requires { (0 < p) × (p ≤ 65535) }
+    ensures { result ≡ mark_from p d.now (class_of entry) }
 {
-    if code % 256 == 0 {
+    if entry.level == 0 {
         return mark_of_digits(d, p);
     }
-    mark_at(d, numbers::reduce(code::residue(code) as i64, p), p)
+    mark_at(d, numbers::reduce(entry.residue as i64, p), p)
 }
 
-// The marks of the classes with these codes, from the coefficients modulo pⁿ.
-pub(crate) fn write_marks(f: &[u32], p: u64, codes: &[u64], marks: &mut [u8])
-    requires { (0 < length f.now) × (length f.now ≤ 65) × (2 ≤ p) × (p ≤ 65535) × (length codes.now ≤ length marks.old)
-        × ResiduesFit codes.now }
+// The marks of the entries' classes, from the coefficients modulo pⁿ.
+pub(crate) fn write_marks(f: &[u32], p: u64, entries: &[Entry], marks: &mut [u8])
+    requires { (0 < length f.now) × (length f.now ≤ 65) × (2 ≤ p) × (p ≤ 65535) × (length entries.now ≤ length marks.old) }
     ensures { marks.new
-        ≡ map (mark_from p (derivative_of (primitive p f.now))) (map class_of codes.now)
-        ++ drop (length codes.now) marks.old }
+        ≡ map (mark_from p (derivative_of (primitive p f.now))) (map class_of entries.now)
+        ++ drop (length entries.now) marks.old }
 {
     let mut d = [0u32; 65];
     let len = f.len() - 1;
     let q = valuation::common_power(f, p);
     derivative(f, q, p, &mut d[..len]);
-    let mut i: usize = 0;
-    while i < codes.len() {
-        marks[i] = mark(&d[..len], codes[i], p);
-        i += 1;
+    for (i, entry) in entries.iter().enumerate() {
+        marks[i] = mark(&d[..len], *entry, p);
     }
 }

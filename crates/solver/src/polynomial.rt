@@ -10,10 +10,8 @@ pub(crate) fn value(g: &[u32], x: u64, m: u64) -> u64
     ensures { result ≡ value_of g.now x % m }
 {
     let mut v: u64 = 0;
-    let mut i = g.len();
-    while 0 < i {
-        i -= 1;
-        v = (g[i] as u64 + x * v) % m;
+    for a in g.iter().rev() {
+        v = (*a as u64 + x * v) % m;
     }
     v
 }
@@ -22,14 +20,7 @@ pub(crate) fn value(g: &[u32], x: u64, m: u64) -> u64
 pub(crate) fn all_zero(g: &[u32]) -> bool
     ensures { result ≡ all_zero g.now }
 {
-    let mut i: usize = 0;
-    while i < g.len() {
-        if g[i] != 0 {
-            return false;
-        }
-        i += 1;
-    }
-    true
+    g.iter().all(|a| *a == 0)
 }
 
 // Divides every coefficient by q.
@@ -37,10 +28,8 @@ pub(crate) fn divide(g: &mut [u32], q: u32)
     requires { 0 < q }
     ensures { g.new ≡ divided q g.old }
 {
-    let mut i: usize = 0;
-    while i < g.len() {
-        g[i] = g[i] / q;
-        i += 1;
+    for a in g.iter_mut() {
+        *a /= q;
     }
 }
 
@@ -49,12 +38,5 @@ pub(crate) fn degree(h: &[u32], p: u64) -> usize
     requires { 0 < p }
     ensures { result ≡ degree_modulo p h.now }
 {
-    let mut i = h.len();
-    while 0 < i {
-        i -= 1;
-        if h[i] as u64 % p != 0 {
-            return i;
-        }
-    }
-    0
+    h.iter().rposition(|a| *a as u64 % p != 0).unwrap_or(0)
 }

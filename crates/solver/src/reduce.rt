@@ -8,10 +8,8 @@ pub(crate) fn reduced(coefficients: &[i64], m: u64) -> [u32; 65]
     ensures { take (length coefficients.now) result ≡ map (reduce m) coefficients.now }
 {
     let mut table = [0u32; 65];
-    let mut i: usize = 0;
-    while i < coefficients.len() {
-        table[i] = numbers::reduce(coefficients[i], m) as u32;
-        i += 1;
+    for (i, a) in coefficients.iter().enumerate() {
+        table[i] = numbers::reduce(*a, m) as u32;
     }
     table
 }

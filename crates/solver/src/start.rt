@@ -6,8 +6,9 @@ ghost use Rattle.theory.specs.inner.Started.{tree_below, started};
 ghost use Rattle.classes.specs.Rule7.{classes_of};
 ghost use Rattle.classes.specs.inner.Usable.{Faultless};
 ghost use Rattle.solver.specs.inner.Recursion.{IsPrimePower, Appended};
-ghost use Rattle.solver.specs.inner.Start.{node_at, shifted_length, codes_of};
+ghost use Rattle.solver.specs.inner.Start.{node_at, shifted_length, entries_of};
 
+use crate::entry::Entry;
 use crate::tree::{Node, PrimePower};
 use crate::{taylor, tree};
 
@@ -32,21 +33,22 @@ fn shifted_length(c: usize, e: u64, t: u64) -> usize
     if t == 0 {
         return c;
     }
-    numbers::smaller(e as usize, c)
+    (e as usize).min(c)
 }
 
 // Adds the classes of the zeros of f that lie in the class residue/level after the first k; their number then.
-fn start(f: &[u32], over: PrimePower, residue: i32, level: u8, out: &mut [u64], k: usize) -> usize
+fn start(f: &[u32], over: PrimePower, residue: i32, level: u8, out: &mut [Entry], k: usize) -> usize
     requires { IsPrimePower over × (0 < length f.now) × (length f.now ≤ 65)
         × IsSignedClass over.p over.exponent (signed_class residue level) × (k + 64 ≤ length out.old) }
-    ensures { Appended (codes_of over.p (tree_below (zeros_of f.now over.p over.exponent) over.p over.exponent
+    ensures { Appended (entries_of over.p (tree_below (zeros_of f.now over.p over.exponent) over.p over.exponent
         (natural over.p (signed_class residue level)))) k result out.old out.new }
 {
     let node = node_at(over, residue, level);
     let len = shifted_length(f.len(), over.exponent, node.level);
-    let mut g = [0u32; 65];
-    taylor::shift(f, node.residue, node.power, over.power, &mut g[..len]);
-    let settled = tree::settle(g, len, over, node, out, k);
+    let mut table = [0u32; 65];
+    let g = &mut table[..len];
+    taylor::shift(f, node.residue, node.power, over.power, g);
+    let settled = tree::settle(g, over, node, out, k);
     settled.k
 }
 
@@ -57,20 +59,18 @@ pub(crate) fn start_all(
     over: PrimePower,
     residues: &[i32],
     levels: &[u8],
-    out: &mut [u64],
+    out: &mut [Entry],
 ) -> usize
     requires { IsPrimePower over × (0 < length f.now) × (length f.now ≤ 65) × (length residues.now ≡ length levels.now)
         × Faultless over.p over.exponent (classes_of residues.now levels.now)
         × (length (started (zeros_of f.now over.p over.exponent) over.p over.exponent
         (naturals over.p (classes_of residues.now levels.now))) + 64 ≤ length out.old) }
-    ensures { Appended (codes_of over.p (started (zeros_of f.now over.p over.exponent) over.p over.exponent
+    ensures { Appended (entries_of over.p (started (zeros_of f.now over.p over.exponent) over.p over.exponent
         (naturals over.p (classes_of residues.now levels.now)))) 0 result out.old out.new }
 {
     let mut k: usize = 0;
-    let mut i: usize = 0;
-    while i < residues.len() {
-        k = start(f, over, residues[i], levels[i], out, k);
-        i += 1;
+    for (residue, level) in residues.iter().zip(levels) {
+        k = start(f, over, *residue, *level, out, k);
     }
     k
 }

@@ -11,9 +11,7 @@ fn horner_step(g: &mut [u32], top: usize, a: u64, c: u64, m: u64)
     ensures { Overwritten (λ i. (coef (a ∷ g.old) i + c * coef g.old i) % m) 0 top
         g.old g.new }
 {
-    let mut i = top;
-    while 1 < i {
-        i -= 1;
+    for i in (1..top).rev() {
         g[i] = ((g[i - 1] as u64 + c * g[i] as u64) % m) as u32;
     }
     g[0] = ((a + c * g[0] as u64) % m) as u32;
@@ -24,10 +22,8 @@ fn taylor(h: &[u32], c: u64, m: u64, g: &mut [u32])
     requires { (0 < length g.old) × (0 < m) × (m ≤ 4294967295) × (c < 4294967296) × ((i : ℕ) → get_or g.old i 0 ≡ 0) }
     ensures { Residues m g.new (taylor_of c h.now) }
 {
-    let mut j = h.len();
-    while 0 < j {
-        j -= 1;
-        let top = numbers::smaller(g.len(), h.len() - j);
+    for j in (0..h.len()).rev() {
+        let top = g.len().min(h.len() - j);
         horner_step(g, top, h[j] as u64, c, m);
     }
 }
@@ -38,11 +34,9 @@ fn stretch(g: &mut [u32], q: u64, m: u64)
     ensures { Overwritten (λ i. q ^ i * coef g.old i % m) 0 (length g.old) g.old g.new }
 {
     let mut power: u64 = 1;
-    let mut i: usize = 0;
-    while i < g.len() {
-        g[i] = (g[i] as u64 * power % m) as u32;
+    for a in g.iter_mut() {
+        *a = (*a as u64 * power % m) as u32;
         power = power * q % m;
-        i += 1;
     }
 }
 

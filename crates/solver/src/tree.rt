@@ -1,13 +1,14 @@
 // The recursion over the digits: settling a class calls the scan of its digits, which settles each child class.
-ghost use Rattle.std.specs.Prelude.{◌≡◌, Bool, true, false, ℕ, ◌+◌, ◌^◌, ◌≤◌, ◌<◌, length, take};
+ghost use Rattle.std.specs.Prelude.{◌≡◌, Bool, true, false, ℕ, ◌+◌, ◌^◌, ◌≤◌, ◌<◌, length};
 ghost use Rattle.theory.specs.Range.{all_below};
 ghost use Rattle.theory.specs.Polynomial.{zeros as zeros_of};
 ghost use Rattle.theory.specs.Degree.{least_valuation, all_zero, primitive};
 ghost use Rattle.theory.specs.Live.{live_of};
 ghost use Rattle.solver.specs.inner.Table.{Below, degree_modulo};
-ghost use Rattle.solver.specs.inner.Recursion.{IsPrimePower, lowered, IsNode, AtNode, Primitive, child_at, most_classes, Done};
+ghost use Rattle.solver.specs.inner.Recursion.{over, everything, IsPrimePower, lowered, IsNode, AtNode, Primitive, child_at, most_classes, Done};
 
-use crate::{code, digits, polynomial, taylor, valuation};
+use crate::entry::Entry;
+use crate::{digits, polynomial, taylor, valuation};
 
 // The modulus of a polynomial: a power of a prime.
 #[derive(Clone, Copy)]
@@ -16,6 +17,18 @@ pub(crate) struct PrimePower {
     pub(crate) exponent: u64,
     // p^exponent
     pub(crate) power: u64,
+}
+
+impl PrimePower {
+    pub(crate) fn new(p: u32, exponent: u32, power: u64) -> PrimePower
+        ensures { result ≡ over p exponent power }
+    {
+        PrimePower {
+            p: p as u64,
+            exponent: exponent as u64,
+            power,
+        }
+    }
 }
 
 // A class residue/level in the tree of digits.
@@ -29,6 +42,20 @@ pub(crate) struct Node {
     pub(crate) left: u64,
 }
 
+impl Node {
+    // The class of everything, with so many levels below it.
+    pub(crate) fn everything(levels: u32) -> Node
+        ensures { result ≡ everything levels }
+    {
+        Node {
+            residue: 0,
+            power: 1,
+            level: 0,
+            left: levels as u64,
+        }
+    }
+}
+
 #[derive(Clone, Copy)]
 pub(crate) struct Settled {
     // the number of classes now
@@ -40,13 +67,13 @@ pub(crate) struct Settled {
 }
 
 // Puts the node's class, which is whole, after the first k; so many classes were live.
-fn put_whole(node: Node, live: u64, out: &mut [u64], k: usize) -> Settled
+fn put_whole(node: Node, live: u64, out: &mut [Entry], k: usize) -> Settled
     requires { (node.residue < node.power) × (node.power ≤ 4294967295) × (node.level < 256) × (k < length out.old) }
     ensures classes { (S : ℕ → Bool) (p : ℕ) → node.power ≡ p ^ node.level → all_below S (p ^ node.left) ≡ true
         → Done S p node k result out.old out.new }
     ensures live { result.live ≡ live }
 {
-    out[k] = code::code(node.residue, node.power, node.level);
+    out[k] = Entry::new(node.residue, node.power, node.level);
     Settled {
         k: k + 1,
         whole: true,
@@ -83,24 +110,22 @@ pub(crate) fn make_primitive(g: &mut [u32], over: PrimePower) -> PrimePower
     }
 }
 
-// The classes of the node's class, where g(y), its first `len` coefficients, is f(residue + power·y) up to a power of p: its roots are the
-// zeros of g modulo `over`.
+// The classes of the node's class, where g(y) is f(residue + power·y) up to a power of p: its roots are the zeros of g modulo `over`. The
+// coefficients are divided by the power of p that they have in common.
 #[cycle(scan_settle)]
 pub(crate) fn settle(
-    mut g: [u32; 65],
-    len: usize,
+    g: &mut [u32],
     over: PrimePower,
     node: Node,
-    out: &mut [u64],
+    out: &mut [Entry],
     k: usize,
 ) -> Settled
-    requires { (len ≤ 65) × AtNode (take len g) over node × (k + most_classes over.p (take len g) ≤ length out.old) }
-    ensures classes { Done (zeros_of (take len g) over.p over.exponent) over.p node k result
+    requires { AtNode g.old over node × (k + most_classes over.p g.old ≤ length out.old) }
+    ensures classes { Done (zeros_of g.old over.p over.exponent) over.p node k result
         out.old out.new }
-    ensures live { result.live ≡ live_of (take len g) over.p over.exponent node.left }
+    ensures live { result.live ≡ live_of g.old over.p over.exponent node.left }
 {
-    let coefficients = &g[..len];
-    if polynomial::all_zero(coefficients) {
+    if polynomial::all_zero(g) {
         return put_whole(node, 1, out, k);
     }
     if node.left == 0 {
@@ -113,13 +138,13 @@ pub(crate) fn settle(
             live: 1,
         };
     }
-    let rest = make_primitive(&mut g[..len], over);
-    scan(&g[..len], rest, node, out, k)
+    let rest = make_primitive(g, over);
+    scan(g, rest, node, out, k)
 }
 
 // The same by the p classes one level below. Only a digit at which h vanishes modulo p can have a zero below it, and its class is live.
 #[cycle(scan_settle)]
-fn scan(h: &[u32], over: PrimePower, node: Node, out: &mut [u64], k: usize) -> Settled
+fn scan(h: &[u32], over: PrimePower, node: Node, out: &mut [Entry], k: usize) -> Settled
     requires { Primitive h.now over node × (k + degree_modulo over.p h.now ≤ length out.old) }
     ensures classes { Done (zeros_of h.now over.p over.exponent) over.p node k result
         out.old out.new }
@@ -127,22 +152,21 @@ fn scan(h: &[u32], over: PrimePower, node: Node, out: &mut [u64], k: usize) -> S
 {
     let mut zeros = [0u16; 64];
     let count = digits::zero_digits(h, over.p, &mut zeros);
-    let cap = numbers::smaller(over.exponent as usize, h.len());
+    let cap = (over.exponent as usize).min(h.len());
     let mut at = k;
     let mut all = true;
     let mut live: u64 = 1;
-    let mut i: usize = 0;
-    while i < count {
-        let c = zeros[i] as u64;
-        let mut g = [0u32; 65];
-        taylor::shift(h, c, over.p, over.power, &mut g[..cap]);
-        let settled = settle(g, cap, over, child(node, over.p, c), out, at);
+    for &zero in &zeros[..count] {
+        let c = zero as u64;
+        let mut table = [0u32; 65];
+        let g = &mut table[..cap];
+        taylor::shift(h, c, over.p, over.power, g);
+        let settled = settle(g, over, child(node, over.p, c), out, at);
         at = settled.k;
         if !settled.whole {
             all = false;
         }
         live += settled.live;
-        i += 1;
     }
     if all && count as u64 == over.p {
         return put_whole(node, live, out, k);

@@ -45,7 +45,7 @@ pub(crate) fn lower(best: u64, x: u64, p: u64) -> u64
     if x == 0 {
         return best;
     }
-    numbers::smaller(valuation(x, p) as usize, best as usize) as u64
+    valuation(x, p).min(best)
 }
 
 // The least valuation of the nonzero coefficients.
@@ -54,10 +54,8 @@ pub(crate) fn least_valuation(g: &[u32], p: u64) -> u64
     ensures { result ≡ least_valuation p g.now }
 {
     let mut best: u64 = 64;
-    let mut i: usize = 0;
-    while i < g.len() {
-        best = lower(best, g[i] as u64, p);
-        i += 1;
+    for a in g {
+        best = lower(best, *a as u64, p);
     }
     best
 }

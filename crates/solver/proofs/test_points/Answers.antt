@@ -1,42 +1,45 @@
--- `solver::test_points` meets its contract. The invariant: the first i records have their answers, and the others are as they were.
-use mathlib.Core.Path.{◌≡◌, refl, ap, ◌∙◌}
-use mathlib.Core.List.{List}
-use Prim.Native.Nat.{ℕ, ◌+◌, ◌<◌}
-use native.Mathlib.Omega.{arith}
-use lib.ListN.{length, get_or, set}
-use Rattle.theory.proofs.Lists.Fill.{written_next, written_entry}
-use Rattle.solver.specs.declared.Query.{Query}
-use Rattle.solver.specs.declared.points.Prepared.{Prepared}
-use Rattle.solver.specs.inner.Points.{answered_by, answered_count}
-use Rattle.solver.proofs.Testing.{answered_most, row_at, row_after}
+-- `solver::test_points` meets its contract. The invariant: the records that are gone through have their answers, and the others are as they
+-- were.
+use mathlib.Core.Path.{sym, ap}
+use Prim.Native.Nat.{ℕ}
+use lib.ListN.{get_or}
+use Rattle.std.proofs.lemmas.Result.{err_from_is_err_and}
+use Rattle.solver.proofs.Coefficients.{usable_pos, usable_fits}
+use Rattle.solver.proofs.Verdicts.{usable-polynomial}
+use Rattle.solver.proofs.Testing.{row_next, points-refused, points-answered}
 use Rattle.solver.proofs.test_points.Goals as goal
 
--- one record more is answered
-row_next : (t : Prepared) (xs qs : List Query) (i : ℕ) (d r : Query) → i < length xs → qs ≡ row_at t xs i
-    → r ≡ answered_by t (get_or qs i d) → set qs i r ≡ row_at t xs (i + 1)
-row_next t xs qs i d r h e f =
-    let f-is = answered_by t in
-    let entry = written_entry f-is xs i d h xs d h in
-    ap (λ (ys : List Query). set ys i r) e
-    ∙ written_next f-is xs i d h xs d r h (f ∙ ap (λ (ys : List Query). f-is (get_or ys i d)) e ∙ ap f-is entry)
+pub reduced-row-requires : goal.reduced-row-requires
+reduced-row-requires c =
+    let U = usable-polynomial c.args.coefficients.now c.args.p c.args.n c.in_ok-m.m (sym c.in_ok-m.ensures) in
+    (usable_pos U.modulus, usable_fits U.modulus, U.few)
 
-pub loop-i-init : goal.loop-i-init
-loop-i-init c = (omega arith, refl)
+pub answer-query-requires : goal.answer-query-requires
+answer-query-requires c =
+    let U = usable-polynomial c.args.coefficients.now c.args.p c.args.n c.in_ok-m.m (sym c.in_ok-m.ensures) in
+    (usable_pos U.modulus, usable_fits U.modulus)
 
-pub loop-i-preserved : goal.loop-i-preserved
-loop-i-preserved c =
-    let t = c.prepare-polynomial.result in
-    let xs = c.args.queries.now in
-    let within = answered_most t.verdict (length xs) in (
-      omega arith,
-      row_next t xs c.loop-i.queries c.loop-i.i _ c.answered.result (omega arith) c.loop-i.invariant.1 c.answered.ensures,
-    )
+pub loop-query-preserved : goal.loop-query-preserved
+loop-query-preserved c =
+    let q = c.loop-query in
+    let point = (get_or q.queries q.query-index (record { point = 0; answer = 0 })).point in
+    row_next _ _ c.args.queries.now q.queries q.query-index _ _ c.loop-query-test.true q.invariant
+    (ap (λ (v : ℕ). record { point = point; answer = v }) c.answer-query.ensures)
 
-pub returns-clause-queries : goal.returns-clause-queries
-returns-clause-queries c =
+pub returns : goal.returns
+returns c =
     let a = c.args in
-    let t = c.prepare-polynomial.result in
-    let all : c.loop-i.i ≡ answered_count t.verdict (length a.queries.now) = omega arith in
-    c.loop-i.invariant.1
-    ∙ ap (row_at t a.queries.now) all
-    ∙ row_after a.coefficients.now a.p a.n t c.prepare-polynomial.ensures a.queries.now
+    let U = usable-polynomial a.coefficients.now a.p a.n c.in_ok-m.m (sym c.in_ok-m.ensures) in
+    let r = points-answered a.coefficients.now a.p a.n a.queries.now U c.reduced-row.ensures c.loop-query-test.false c.loop-query.invariant in record {
+      answer = r.0;
+      queries = r.1;
+    }
+
+pub returns-in_err-m : goal.returns-in_err-m
+returns-in_err-m c =
+    let a = c.args in
+    let p = err_from_is_err_and c.from_residual.result c.from_residual.ensures.1 in
+    let r = points-refused a.coefficients.now a.p a.n a.queries.now _ (sym c.in_err-m.ensures) in record {
+      answer = rw (p.1, p.2) r.0;
+      queries = r.1;
+    }

@@ -10,7 +10,8 @@ use Rattle.solver.specs.declared.tree.PrimePower.{PrimePower}
 use Rattle.solver.specs.declared.tree.Node.{Node}
 use Rattle.solver.specs.declared.tree.Settled.{Settled}
 use Rattle.solver.specs.inner.Table.{Below, nonzero_modulo}
-use Rattle.solver.specs.inner.Code.{code}
+use Rattle.solver.specs.declared.entry.Entry.{Entry}
+use Rattle.solver.specs.inner.Entry.{entry}
 
 -- the modulus is a power of a prime that the solver takes
 pub record IsPrimePower (M : PrimePower) : Type 0 where
@@ -19,9 +20,17 @@ pub record IsPrimePower (M : PrimePower) : Type 0 where
   pub power_is : M.power ≡ M.p ^ M.exponent
   pub fits : M.power ≤ 4294967295
 
+-- the modulus m = pⁿ
+abbrev pub over : (p n m : ℕ) → PrimePower
+over p n m = record { p = p; exponent = n; power = m }
+
 -- the modulus divided by p^s
 abbrev pub lowered : PrimePower → ℕ → PrimePower
 lowered M s = record { p = M.p; exponent = M.exponent - s; power = M.power / M.p ^ s }
+
+-- the class of everything, at which the recursion starts
+abbrev pub everything : (levels : ℕ) → Node
+everything levels = record { residue = 0; power = 1; level = 0; left = levels }
 
 -- a node holds a class a/t of the tree of digits to the base p, with p^t and the number of levels below it, all of them within 32 bits
 pub record IsNode (p : ℕ) (x : Node) : Type 0 where
@@ -57,16 +66,16 @@ most_classes p f = elim (all_zero f) [ true ↦ 1 | false ↦ degree_bound p f ]
 unfoldable pub within : Node → Class → Class
 within x c = class (x.residue + x.power * c.residue) (x.level + c.level)
 
--- the codes of such classes
-abbrev pub codes_within : ℕ → Node → List Class → List ℕ
-codes_within p x = map (λ (c : Class). code (signed p (within x c)))
+-- the entries of such classes
+abbrev pub entries_within : ℕ → Node → List Class → List Entry
+entries_within p x = map (λ (c : Class). entry (signed p (within x c)))
 
 -- `new` now follows the first k entries of the scratch, which are kept: together its first k'
-pub record Appended (new : List ℕ) (k k' : ℕ) (out out' : List ℕ) : Type 0 where
+pub record Appended {A : Type 0} (new : List A) (k k' : ℕ) (out out' : List A) : Type 0 where
   pub number : k' ≡ k + length new
   pub entries : take k' out' ≡ take k out ++ new
 
--- the classes of the set S of numbers y are added, each as a code
-pub record Done (S : ℕ → Bool) (p : ℕ) (x : Node) (k : ℕ) (r : Settled) (out out' : List ℕ) : Type 0 where
-  pub added : Appended (codes_within p x (tree S p x.left)) k r.k out out'
+-- the classes of the set S of numbers y are added, each as an entry
+pub record Done (S : ℕ → Bool) (p : ℕ) (x : Node) (k : ℕ) (r : Settled) (out out' : List Entry) : Type 0 where
+  pub added : Appended (entries_within p x (tree S p x.left)) k r.k out out'
   pub is_whole : r.whole ≡ all_below S (p ^ x.left)

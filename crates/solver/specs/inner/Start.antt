@@ -3,7 +3,8 @@ use Rattle.std.specs.Prelude.{true, false, List, map, ℕ, ◌-◌, ◌^◌, min
 use Rattle.theory.specs.Class.{Class}
 use Rattle.theory.specs.SignedClass.{signed}
 use Rattle.solver.specs.declared.tree.Node.{Node}
-use Rattle.solver.specs.inner.Code.{code}
+use Rattle.solver.specs.declared.entry.Entry.{Entry}
+use Rattle.solver.specs.inner.Entry.{entry}
 
 -- the node of the class a/t, with n − t levels below it
 abbrev pub node_at : (p n : ℕ) → Class → Node
@@ -13,6 +14,6 @@ node_at p n c = record { residue = c.residue; power = p ^ c.level; level = c.lev
 unfoldable pub shifted_length : (c e t : ℕ) → ℕ
 shifted_length c e t = elim (eqb t 0) [ true ↦ c | false ↦ min e c ]
 
--- the codes of classes
-abbrev pub codes_of : ℕ → List Class → List ℕ
-codes_of p = map (λ (c : Class). code (signed p c))
+-- the entries of classes
+abbrev pub entries_of : ℕ → List Class → List Entry
+entries_of p = map (λ (c : Class). entry (signed p c))

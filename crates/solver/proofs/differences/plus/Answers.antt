@@ -1,13 +1,8 @@
 -- `solver::differences::plus` meets its contract.
-use mathlib.Core.Path.{sym}
 use Prim.Native.Nat.{◌+◌, ◌-◌}
-use native.Mathlib.Nat.{mod-eq_of_lt}
 use native.Mathlib.Omega.{arith}
 use Rattle.theory.proofs.Numbers.Congruence.{residue_is}
 use Rattle.solver.proofs.differences.plus.Goals as goal
-
-pub returns-then-s-p : goal.returns-then-s-p
-returns-then-s-p c = sym (mod-eq_of_lt c.if-s-p.true)
 
 pub returns-else-s-p : goal.returns-else-s-p
 returns-else-s-p c =

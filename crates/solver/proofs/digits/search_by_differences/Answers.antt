@@ -22,7 +22,6 @@ unfolding passing
 loop-c-init c =
     let n = length c.args.g.now in
     let r = c.first_row in (
-      omega arith,
       length_front (replicate 65 0) r.new.row n r.auto.row,
       record { long = refl; number = refl; entries = refl },
       rw (part_back n (replicate 65 0) r.new.row (omega arith) r.auto.row) r.ensures,
@@ -42,12 +41,12 @@ module _ (g table : List ℕ) (p c : ℕ) (some : 0 < length g) (prime : Prime p
 room : (c : Then-table-eq0) → c.loop-c.count < 64
 room c =
     let pre = c.requires in
-    let head = first c.args.g.now c.loop-c.table c.args.p c.loop-c.c pre.0 pre.2 (omega arith) c.loop-c.invariant.3 in
-    omega (arith, pre.1, found-room pre.2 pre.4 c.loop-c.invariant.2 c.loop-c-test.true (sym head ∙ c.if-table-eq0.true))
+    let head = first c.args.g.now c.loop-c.table c.args.p c.loop-c.c pre.0 pre.2 (omega arith) c.loop-c.invariant.2 in
+    omega (arith, pre.1, found-room pre.2 pre.4 c.loop-c.invariant.1 c.loop-c-test.true (sym head ∙ c.if-table-eq0.true))
 
 pub advance-requires : goal.advance-requires
 advance-requires c =
-    (c.requires.3, row_below c.args.p c.args.g.now (prime_pos c.requires.2) c.loop-c.c _ c.loop-c.invariant.3)
+    (c.requires.3, row_below c.args.p c.args.g.now (prime_pos c.requires.2) c.loop-c.c _ c.loop-c.invariant.2)
 
 pub loop-c-preserved : goal.loop-c-preserved
 loop-c-preserved c =
@@ -55,28 +54,24 @@ loop-c-preserved c =
     let g = c.args.g.now in
     let table = c.loop-c.table in
     let r = c.advance in
-    let head = first g table c.args.p c.loop-c.c pre.0 pre.2 (omega arith) c.loop-c.invariant.3 in (
-      omega arith,
-      length_front table r.new.row (length g) r.auto.row ∙ c.loop-c.invariant.1,
+    let head = first g table c.args.p c.loop-c.c pre.0 pre.2 (omega arith) c.loop-c.invariant.2 in (
+      length_front table r.new.row (length g) r.auto.row ∙ c.loop-c.invariant.0,
       elim c.if-table-eq0.branch [
         | then-table-eq0 w ↦ rw (w.zeros-is, w.count-is)
-            (found-on pre.2 pre.4 c.loop-c.invariant.2 c.loop-c-test.true (omega arith) (sym head ∙ w.if-table-eq0.true))
+            (found-on pre.2 pre.4 c.loop-c.invariant.1 c.loop-c-test.true (omega arith) (sym head ∙ w.if-table-eq0.true))
         | else-table-eq0 w ↦ rw (w.zeros-is, w.count-is)
-            (found-off pre.2 pre.4 c.loop-c.invariant.2 (λ e. w.if-table-eq0.false (head ∙ e)))
+            (found-off pre.2 pre.4 c.loop-c.invariant.1 (λ e. w.if-table-eq0.false (head ∙ e)))
       ],
       rw (part_back (length g) table r.new.row (omega arith) r.auto.row)
           (row_next c.args.p g (prime_pos pre.2) c.loop-c.c _ _
-          (long g table c.args.p c.loop-c.c pre.0 pre.2 (omega arith) c.loop-c.invariant.3) c.loop-c.invariant.3 r.ensures),
+          (long g table c.args.p c.loop-c.c pre.0 pre.2 (omega arith) c.loop-c.invariant.2) c.loop-c.invariant.2 r.ensures),
     )
 
 pub returns : goal.returns
 returns c =
     let pre = c.requires in
     let all : c.loop-c.c ≡ c.args.p = omega arith in
-    (omega (arith, pre.1, found-few pre.2 pre.4 c.loop-c.invariant.2 (omega arith)), rw all at c.loop-c.invariant.2.entries)
-
-pub slice_bounds-first_row-end : goal.slice_bounds-first_row-end
-slice_bounds-first_row-end c = sym (length-take-le _ _ (omega arith))
+    (omega (arith, pre.1, found-few pre.2 pre.4 c.loop-c.invariant.1 (omega arith)), rw all at c.loop-c.invariant.1.entries)
 
 pub first_row-requires : goal.first_row-requires
 first_row-requires c = (prime_pos c.requires.2, omega arith, simp length-take (omega arith))
@@ -89,9 +84,3 @@ bounds-zeros-count c = omega (arith, room (goal.at.bounds-zeros-count c).Then-ta
 
 pub overflow_add-count : goal.overflow_add-count
 overflow_add-count c = omega (arith, room (goal.at.overflow_add-count c).Then-table-eq0)
-
-pub slice_bounds-table-end-in-loop-c : goal.slice_bounds-table-end-in-loop-c
-slice_bounds-table-end-in-loop-c c = omega arith
-
-pub slice_bounds-advance-end : goal.slice_bounds-advance-end
-slice_bounds-advance-end c = sym (length-take-le _ _ (omega arith))

@@ -1,7 +1,6 @@
 -- `solver::digits::search_by_differences` meets its contract. The invariant: the digits below c at which the polynomial vanishes are found,
 -- and the row at c is reached.
 use mathlib.Core.Path.{◌≡◌}
-use Prim.Native.Nat.{◌-◌, ◌≤◌}
 use lib.ListN.{length, take}
 use Rattle.solver.specs.inner.Table.{Differences}
 use Rattle.solver.proofs.Zeros.{Found}
@@ -9,7 +8,4 @@ use Rattle.solver.proofs.digits.search_by_differences.Given as goal
 
 abbrev pub invariant-loop-c : goal.invariant-loop-c
 invariant-loop-c l =
-    (l.c ≤ l.p) × (length l.table ≡ 65) × Found l.p l.c l.count l.g l.initial.zeros l.zeros × Differences l.p l.g l.c (take l.len l.table)
-
-abbrev pub decreases-loop-c : goal.decreases-loop-c
-decreases-loop-c l = l.p - l.c
+    (length l.table ≡ 65) × Found l.p l.c l.count l.g l.initial.zeros l.zeros × Differences l.p l.g l.c (take l.len l.table)

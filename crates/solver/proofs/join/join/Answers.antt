@@ -2,7 +2,7 @@
 use mathlib.Core.Path.{◌≡◌, sym, ap, ap₂, ◌∙◌}
 use mathlib.Core.Bool.{Bool}
 use mathlib.Core.List.{List, map}
-use Prim.Native.Nat.{ℕ, ◌*◌, ◌/◌, ◌^◌, ◌≤◌, ◌<◌}
+use Prim.Native.Nat.{ℕ, ◌^◌, ◌≤◌, ◌<◌}
 use native.Mathlib.Omega.{arith}
 use borrow.Author.Rules.{rules}
 use lib.IntN.{ℤ}
@@ -19,18 +19,20 @@ use Rattle.theory.proofs.Numbers.Power.{exponent_lt}
 use Rattle.theory.proofs.Signed.AddsUp.{joined_level-le}
 use Rattle.numbers.specs.Saturated.{saturated}
 use Rattle.numbers.proofs.Saturated.{level_power, saturated_power}
-use Rattle.solver.specs.inner.Code.{class_of}
+use Rattle.solver.specs.declared.entry.Entry.{Entry}
+use Rattle.solver.specs.inner.Entry.{class_of}
 use Rattle.solver.proofs.Joining.{joining-none, joining-on, joining-off, joining-all}
+use Rattle.solver.proofs.Entries.{none}
 use Rattle.solver.proofs.join.join.Goals.{then-is_centered, else-is_centered}
 use Rattle.solver.proofs.join.join.Goals as goal
 
 -- entry i and its level once joined
-module _ (codes : List ℕ) (p n i t : ℕ) (two : 2 ≤ p) (fits : p ^ n ≤ 4294967295) where
+module _ (codes : List Entry) (p n i t : ℕ) (two : 2 ≤ p) (fits : p ^ n ≤ 4294967295) where
   abbrev L : List SignedClass
   L = map class_of codes
 
-  abbrev x : ℕ
-  x = get_or codes i 0
+  abbrev x : Entry
+  x = get_or codes i none
 
   abbrev z : ℤ
   z = (class_of x).residue
@@ -57,74 +59,64 @@ module _ (codes : List ℕ) (p n i t : ℕ) (two : 2 ≤ p) (fits : p ^ n ≤ 42
       unfolding is_first
       first-is k r = k ∙ ap₂ is_centered (power_is ∙ ap (λ (s : ℕ). p ^ s) level-is) r
 
--- the number to store
-key_fits : (x : ℕ) → x / 256 < 4294967296 → x / 256 * 256 < 1099511627776
-key_fits x h = omega arith
-
 pub joined_level-t-requires : goal.joined_level-t-requires
 joined_level-t-requires c =
-    let codes = c.args.codes.now in
-    let i = c.loop-i.i in
-    let x = get_or codes i 0 in
-    let listed = map_in class_of codes x (in_at codes i 0 c.loop-i-test.true) in (
+    let codes = c.args.entries.now in
+    let i = c.loop-x.x-index in
+    let x = get_or codes i none in
+    let listed = map_in class_of codes x (in_at codes i none c.loop-x-test.true) in (
       c.requires.0,
       c.requires.1,
       c.requires.2,
-      c.requires.3,
-      c.requires.3.fits i c.loop-i-test.true,
-      c.requires.6.filled (class_of x) listed,
-      (λ few. c.requires.5.stays (omega (arith, length-map codes class_of)) (class_of x) listed),
+      c.requires.5.filled (class_of x) listed,
+      (λ few. c.requires.4.stays (omega (arith, length-map codes class_of)) (class_of x) listed),
     )
 
 pub overflow_cast-power : goal.overflow_cast-power
 overflow_cast-power c =
     let a = c.args in
-    let le = power_fits a.codes.now a.p a.n c.loop-i.i c.joined_level-t.result c.requires.0 c.requires.1 c.joined_level-t.ensures c.power.ensures in
+    let le = power_fits a.entries.now a.p a.n c.loop-x.x-index c.joined_level-t.result c.requires.0 c.requires.1 c.joined_level-t.ensures c.power.ensures in
     record { fits = omega arith }
 
-pub loop-i-preserved : goal.loop-i-preserved
-loop-i-preserved c =
+pub loop-x-preserved : goal.loop-x-preserved
+loop-x-preserved c =
     let a = c.args in
-    let codes = a.codes.now in
-    let i = c.loop-i.i in
-    let j = c.loop-i.invariant.1 in
-    let h = c.loop-i-test.true in
-    let room : c.loop-i.k < length c.loop-i.out = omega (arith, j.long, j.number, c.requires.4) in
+    let codes = a.entries.now in
+    let i = c.loop-x.x-index in
+    let j = c.loop-x.invariant in
+    let h = c.loop-x-test.true in
+    let room : c.loop-x.k < length c.loop-x.out = omega (arith, j.long, j.number, c.requires.3) in
     let level-is = c.joined_level-t.ensures in
-    let f : SFits w32 c.residue-z.result = search rules in
-    let read = to_z-of_z w32 c.residue-z.result f ∙ c.residue-z.ensures in
-    let first = first-is codes a.p a.n i c.joined_level-t.result c.requires.0 c.requires.1 level-is c.power.ensures c.is_centered.ensures read in (
-      omega arith,
-      elim c.if-is_centered.branch [
-        | then-is_centered w ↦ rw (w.out-is, w.k-is, level-is) (joining-on a.p a.n codes j h room (sym first ∙ w.if-is_centered.true))
-        | else-is_centered w ↦ rw (w.out-is, w.k-is) (joining-off a.p a.n codes j h (sym first ∙ w.if-is_centered.false))
-      ],
-    )
+    let f : SFits w32 (get_or codes i none).residue = search rules in
+    let first =
+    first-is codes a.p a.n i c.joined_level-t.result c.requires.0 c.requires.1 level-is c.power.ensures c.is_centered.ensures
+    (to_z-of_z w32 (get_or codes i none).residue f) in
+    elim c.if-is_centered.branch [
+      | then-is_centered w ↦ rw (w.out-is, w.k-is, level-is, to_z-of_z w32 (get_or codes i none).residue f) (joining-on a.p a.n codes j h room (sym first ∙ w.if-is_centered.true))
+      | else-is_centered w ↦ rw (w.out-is, w.k-is) (joining-off a.p a.n codes j h (sym first ∙ w.if-is_centered.false))
+    ]
 
 pub returns : goal.returns
 returns c =
     let s = c.args in
-    let all : c.loop-i.i ≡ length s.codes.now = omega arith in
-    (omega (arith, c.loop-i.invariant.1.number), joining-all s.p s.n s.codes.now c.loop-i.invariant.1 all)
+    let all : c.loop-x.x-index ≡ length s.entries.now = omega arith in
+    (omega (arith, c.loop-x.invariant.number), joining-all s.p s.n s.entries.now c.loop-x.invariant all)
 
-pub loop-i-init : goal.loop-i-init
-loop-i-init c = (omega arith, joining-none _ _ _ _)
-
-pub residue-z-requires : goal.residue-z-requires
-residue-z-requires c = c.requires.3.fits c.loop-i.i c.loop-i-test.true
-
-pub overflow_mul-out : goal.overflow_mul-out
-overflow_mul-out c =
-    record { fits = omega (arith, key_fits (get_or c.args.codes.now c.loop-i.i 0) (c.requires.3.fits c.loop-i.i c.loop-i-test.true)) }
-
-pub overflow_add-out : goal.overflow_add-out
-overflow_add-out c =
-    let a = c.args in
-    let small = level-small a.codes.now a.p a.n c.loop-i.i c.joined_level-t.result c.requires.0 c.requires.1 c.joined_level-t.ensures in
-    record { fits = omega (arith, key_fits (get_or a.codes.now c.loop-i.i 0) (c.requires.3.fits c.loop-i.i c.loop-i-test.true), small) }
+pub loop-x-init : goal.loop-x-init
+loop-x-init c = joining-none _ _ _ _
 
 pub bounds-out-k : goal.bounds-out-k
-bounds-out-k c = omega (arith, c.loop-i.invariant.1.long, c.loop-i.invariant.1.number, c.requires.4, c.loop-i-test.true)
+bounds-out-k c = omega (arith, c.loop-x.invariant.long, c.loop-x.invariant.number, c.requires.3, c.loop-x-test.true)
 
 pub shape_of-out : goal.shape_of-out
-shape_of-out c = c.loop-i.invariant.1.long
+shape_of-out c = c.loop-x.invariant.long
+
+pub overflow_cast-out : goal.overflow_cast-out
+overflow_cast-out c =
+    let a = c.args in
+    record {
+      fits = omega (
+        arith,
+        level-small a.entries.now a.p a.n c.loop-x.x-index c.joined_level-t.result c.requires.0 c.requires.1 c.joined_level-t.ensures,
+      );
+    }

@@ -2,15 +2,13 @@
 use mathlib.Core.Path.{◌≡◌, sym, ap, ◌∙◌}
 use mathlib.Core.Bool.{true, false}
 use mathlib.Core.List.{List, map}
-use Prim.Native.Nat.{ℕ, ◌-◌, ◌/◌, ◌%◌, ◌^◌, ◌≤◌, ◌<◌}
-use native.Mathlib.Nat.{le_refl}
+use Prim.Native.Nat.{ℕ, ◌+◌, ◌-◌, ◌/◌, ◌^◌, ◌≤◌, ◌<◌}
 use native.Mathlib.Omega.{arith}
 use borrow.Author.Rules.{rules}
 use borrow.Author.Tests.{eq-eqb, ne_eqb}
 use lib.IntN.{ℤ}
 use mir.Syntax.{w32, w64}
 use mir.Val.{SFits, to_z, of_z}
-use mir.ValLaws.{to_z-of_z}
 use Rattle.theory.specs.Polynomial.{reduce}
 use Rattle.theory.specs.SignedClass.{SignedClass}
 use Rattle.theory.specs.inner.Join.{inside_total, adds_up, joined_level, FilledDown}
@@ -19,18 +17,19 @@ use Rattle.theory.proofs.Least.{least_is}
 use Rattle.theory.proofs.Numbers.Power.{pow_before}
 use Rattle.numbers.specs.Saturated.{saturated}
 use Rattle.numbers.proofs.Saturated.{saturated_power}
-use Rattle.numbers.proofs.Words.{wide_fits, wide_read}
-use Rattle.solver.specs.inner.Code.{class_of}
+use Rattle.numbers.proofs.Words.{wide_read}
+use Rattle.solver.specs.declared.entry.Entry.{Entry}
+use Rattle.solver.specs.inner.Entry.{class_of}
 use Rattle.solver.proofs.join.search_level.Goals as goal
 
-module _ (codes : List ℕ) (p n x t : ℕ) where
+module _ (codes : List Entry) (p n : ℕ) (x : Entry) (t : ℕ) where
   abbrev L : List SignedClass
   L = map class_of codes
 
   abbrev z : ℤ
   z = (class_of x).residue
 
-  module _ (filled : FilledDown p n L (class_of x)) (low : t ≤ x % 256) where
+  module _ (filled : FilledDown p n L (class_of x)) (low : t ≤ x.level) where
     t-fits : t ≤ n
     t-fits = omega (arith, filled.level_fits)
 
@@ -68,15 +67,9 @@ module _ (codes : List ℕ) (p n x t : ℕ) where
     unfolding adds_up
     adds-not h = ne_eqb total (p ^ (n - (t - 1))) (λ e. h (total-is ∙ e ∙ sym power_is))
 
-pub overflow_cast-z : goal.overflow_cast-z
-overflow_cast-z c =
-    let f : SFits w32 c.residue-z.result = search rules in
-    rw (to_z-of_z w32 c.residue-z.result f) (wide_fits c.residue-z.result f)
-
 pub loop-t-init : goal.loop-t-init
 loop-t-init c =
-    let filled = c.requires.5 in (
-      le_refl (c.args.x % 256),
+    let filled = c.requires.3 in (
       saturated_power (omega (arith, c.requires.0)) filled.level_fits c.requires.1 c.power-q.ensures,
       filled.own,
     )
@@ -85,41 +78,38 @@ pub inside_total-requires : goal.inside_total-requires
 inside_total-requires c = (
   c.requires.0,
   c.requires.1,
-  pow_before c.args.p c.loop-t.t (omega (arith, c.requires.0)) c.loop-t-test.true c.loop-t.invariant.1,
+  pow_before c.args.p c.loop-t.t (omega (arith, c.requires.0)) c.loop-t-test.true c.loop-t.invariant.0,
   c.requires.2,
-  c.requires.3,
 )
 
 pub overflow_sub-n : goal.overflow_sub-n
-overflow_sub-n c = omega (arith, c.requires.5.level_fits, c.loop-t.invariant.0)
+overflow_sub-n c = omega (arith, c.requires.3.level_fits)
 
 pub returns-then-inside_total-power : goal.returns-then-inside_total-power
 returns-then-inside_total-power c =
     let a = c.args in
     let t = c.loop-t.t in
     let v = c.loop-t.invariant in
-    let larger = pow_before a.p t (omega (arith, c.requires.0)) c.loop-t-test.true v.1 in
-    let f : SFits w32 c.residue-z.result = search rules in
-    let y = to_z w64 (of_z w64 (to_z w32 (of_z w32 c.residue-z.result))) in
-    let read = wide_read c.residue-z.result f ∙ c.residue-z.ensures in
-    let le = t-fits a.codes.now a.p a.n a.x t c.requires.5 v.0 in
-    let not = adds-not a.codes.now a.p a.n a.x t c.requires.0 c.requires.1 le c.loop-t.q c.reduce-a.result c.inside_total.result c.power.result y larger read c.reduce-a.ensures c.inside_total.ensures c.power.ensures
+    let low : c.loop-t.t ≤ a.x.level = omega arith in
+    let fits : SFits w32 a.x.residue = search rules in
+    let larger = pow_before a.p t (omega (arith, c.requires.0)) c.loop-t-test.true v.0 in
+    let le = t-fits a.entries.now a.p a.n a.x t c.requires.3 low in
+    let not = adds-not a.entries.now a.p a.n a.x t c.requires.0 c.requires.1 le c.loop-t.q c.reduce-a.result c.inside_total.result c.power.result (to_z w64 (of_z w64 (to_z w32 (of_z w32 a.x.residue)))) larger (wide_read a.x.residue fits) c.reduce-a.ensures c.inside_total.ensures c.power.ensures
     c.if-inside_total-power.true in
-    level-is a.codes.now a.p a.n a.x t c.requires.5 v.0 v.2 (none-lower a.codes.now a.p a.n a.x t c.requires.5 v.0 not)
+    let next : t - 1 + 1 ≡ t = omega (arith, c.loop-t-test.true) in
+    next ∙ level-is a.entries.now a.p a.n a.x t c.requires.3 low v.1 (none-lower a.entries.now a.p a.n a.x t c.requires.3 low not)
 
 pub loop-t-preserved : goal.loop-t-preserved
 loop-t-preserved c =
     let a = c.args in
     let t = c.loop-t.t in
     let v = c.loop-t.invariant in
-    let larger = pow_before a.p t (omega (arith, c.requires.0)) c.loop-t-test.true v.1 in
-    let f : SFits w32 c.residue-z.result = search rules in
-    let y = to_z w64 (of_z w64 (to_z w32 (of_z w32 c.residue-z.result))) in
-    let read = wide_read c.residue-z.result f ∙ c.residue-z.ensures in
-    let le = t-fits a.codes.now a.p a.n a.x t c.requires.5 v.0 in (
-      omega (arith, v.0),
+    let low : c.loop-t.t ≤ a.x.level = omega arith in
+    let fits : SFits w32 a.x.residue = search rules in
+    let larger = pow_before a.p t (omega (arith, c.requires.0)) c.loop-t-test.true v.0 in
+    let le = t-fits a.entries.now a.p a.n a.x t c.requires.3 low in (
       larger,
-      adds a.codes.now a.p a.n a.x t c.requires.0 c.requires.1 le c.loop-t.q c.reduce-a.result c.inside_total.result c.power.result y larger read c.reduce-a.ensures c.inside_total.ensures c.power.ensures
+      adds a.entries.now a.p a.n a.x t c.requires.0 c.requires.1 le c.loop-t.q c.reduce-a.result c.inside_total.result c.power.result (to_z w64 (of_z w64 (to_z w32 (of_z w32 a.x.residue)))) larger (wide_read a.x.residue fits) c.reduce-a.ensures c.inside_total.ensures c.power.ensures
           c.if-inside_total-power.false,
     )
 
@@ -127,8 +117,6 @@ pub returns : goal.returns
 returns c =
     let a = c.args in
     let v = c.loop-t.invariant in
+    let low : c.loop-t.t ≤ a.x.level = omega arith in
     let none : c.loop-t.t ≡ 0 = omega (arith, c.loop-t-test.false) in
-    sym none ∙ level-is a.codes.now a.p a.n a.x c.loop-t.t c.requires.5 v.0 v.2 (λ s h. absurd (omega arith))
-
-pub residue-z-requires : goal.residue-z-requires
-residue-z-requires c = c.requires.4
+    sym none ∙ level-is a.entries.now a.p a.n a.x c.loop-t.t c.requires.3 low v.1 (λ s h. absurd (omega arith))

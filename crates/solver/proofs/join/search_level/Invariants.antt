@@ -2,13 +2,10 @@
 use mathlib.Core.Path.{◌≡◌}
 use mathlib.Core.Bool.{true}
 use mathlib.Core.List.{map}
-use Prim.Native.Nat.{◌%◌, ◌^◌, ◌≤◌}
+use Prim.Native.Nat.{◌^◌}
 use Rattle.theory.specs.inner.Join.{adds_up}
-use Rattle.solver.specs.inner.Code.{class_of}
+use Rattle.solver.specs.inner.Entry.{class_of}
 use Rattle.solver.proofs.join.search_level.Given as goal
 
 abbrev pub invariant-loop-t : goal.invariant-loop-t
-invariant-loop-t l = (l.t ≤ l.x % 256) × (l.q ≡ l.p ^ l.t) × (adds_up l.p l.n (map class_of l.codes) (class_of l.x).residue l.t ≡ true)
-
-abbrev pub decreases-loop-t : goal.decreases-loop-t
-decreases-loop-t l = l.t
+invariant-loop-t l = (l.q ≡ l.p ^ l.t) × (adds_up l.p l.n (map class_of l.entries) (class_of l.fn.x).residue l.t ≡ true)

@@ -18,29 +18,30 @@ use Rattle.numbers.specs.Saturated.{saturated}
 use Rattle.numbers.proofs.Totals.{total_is}
 use Rattle.refusal.specs.Rules.{passes, filled}
 use Rattle.solver.specs.Solve.{lists}
-use Rattle.solver.specs.inner.Code.{code, class_of}
+use Rattle.solver.specs.declared.entry.Entry.{Entry}
+use Rattle.solver.specs.inner.Entry.{entry, class_of}
 use Rattle.solver.specs.inner.Marks.{mark_from}
-use Rattle.solver.proofs.Codes.{written}
+use Rattle.solver.proofs.Entries.{written}
 use Rattle.solver.proofs.Marks.{mark_is}
 use Rattle.solver.proofs.lists.fill.Goals as goal
 
 -- The call
-module _ (w codes : List ℕ) (p n : ℕ) (U : Usable p n (p ^ n)) where
+module _ (w : List ℕ) (codes : List Entry) (p n : ℕ) (U : Usable p n (p ^ n)) where
   -- the marks from the derivative are those over all members
   marks-are : mark_from p (derivative (primitive p w)) ≡ (λ (c : SignedClass). mark_of w p n (natural p c))
   marks-are = fun_ext (λ c. mark_is w p n (prime_pos U.prime) U.precise c)
 
   -- of the list of a set
-  module _ (S : ℕ → Bool) (listed : codes ≡ map code (signed_list S p n)) where
+  module _ (S : ℕ → Bool) (listed : codes ≡ map entry (signed_list S p n)) where
     -- what is written of each class
     stands : {A : Type 0} (h : SignedClass → A) (old : List A)
         → map h (map class_of codes) ++ drop (length codes) old ≡ filled passes (map h (signed_list S p n)) old
-    stands = written S U codes listed
+    stands h old = written h (signed_list S p n) codes old listed
 
     levels-long : length codes ≡ length (levels_of (signed_list S p n))
     levels-long =
         ap length listed
-        ∙ length-map (signed_list S p n) code
+        ∙ length-map (signed_list S p n) entry
         ∙ sym (length-map (signed_list S p n) (λ (e : SignedClass). e.level))
 
     marks-stand : (marks old : List ℕ)
@@ -60,12 +61,12 @@ module _ (w codes : List ℕ) (p n : ℕ) (U : Usable p n (p ^ n)) where
 
 pub slice_bounds-member_total-end-2 : goal.slice_bounds-member_total-end-2
 slice_bounds-member_total-end-2 c =
-    sym (length-take-le (length c.args.codes.now) c.write_levels.new.levels (omega (arith, c.write_levels.auto.levels, c.requires.3)))
+    sym (length-take-le (length c.args.entries.now) c.write_levels.new.levels (omega (arith, c.write_levels.auto.levels, c.requires.3)))
 
 pub returns : goal.returns
 returns c =
     let w = c.args.f.now in
-    let codes = c.args.codes.now in
+    let codes = c.args.entries.now in
     let p = c.args.p in
     let n = c.args.n in
     let U : Usable p n (p ^ n) = c.requires.0.modulus in

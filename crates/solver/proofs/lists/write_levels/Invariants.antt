@@ -1,11 +1,13 @@
--- `solver::lists::write_levels` meets its contract. The invariant: the first i levels are written.
-use Prim.Native.Nat.{◌-◌, ◌%◌, ◌≤◌}
-use lib.ListN.{length, get_or}
-use Rattle.theory.specs.inner.Overwritten.{Overwritten}
+-- `solver::lists::write_levels` meets its contract. The invariant: the first i levels are written, and the others are as they were.
+use mathlib.Core.Path.{◌≡◌}
+use mathlib.Core.List.{◌++◌, map}
+use Prim.Native.Nat.{ℕ}
+use lib.ListN.{take, drop}
+use Rattle.solver.specs.declared.entry.Entry.{Entry}
 use Rattle.solver.proofs.lists.write_levels.Given as goal
 
-abbrev pub invariant-loop-i : goal.invariant-loop-i
-invariant-loop-i l = (l.i ≤ length l.codes) × Overwritten (λ k. get_or l.codes k 0 % 256) 0 l.i l.initial.levels l.levels
+abbrev pub level_at : Entry → ℕ
+level_at x = x.level
 
-abbrev pub decreases-loop-i : goal.decreases-loop-i
-decreases-loop-i l = length l.codes - l.i
+abbrev pub invariant-loop-i : goal.invariant-loop-i
+invariant-loop-i l = l.levels ≡ map level_at (take l.i l.entries) ++ drop l.i l.initial.levels

@@ -1,15 +1,24 @@
--- `solver::polynomial::all_zero` meets its contract. The invariant: the first i coefficients are zero.
-use mathlib.Core.Path.{sym}
-use native.Mathlib.Omega.{arith}
-use borrow.Author.Count.{below_more}
-use Rattle.theory.proofs.Polynomials.Highest.{all_zero_intro, all_zero_fails}
+-- `solver::polynomial::all_zero` meets its contract.
+use mathlib.Core.Path.{◌≡◌, refl, ap, ◌∙◌}
+use mathlib.Core.Bool.{Bool, ◌&&◌}
+use mathlib.Core.List.{List, [], ◌∷◌}
+use Prim.Native.Nat.{ℕ}
+use borrow.Author.Rules.{rules}
+use borrow.Author.Tests.{tests}
+use lib.Dec.{eqb}
+use Rattle.std.specs.List.{list_all}
+use Rattle.std.proofs.lemmas.Iterator.{YieldsList-from_slice}
+use Rattle.std.proofs.lemmas.Iterator.Search.{all_from_yields_List}
+use Rattle.theory.specs.Degree.{all_zero, every}
 use Rattle.solver.proofs.polynomial.all_zero.Goals as goal
 
-pub returns-then-g-i-ne0 : goal.returns-then-g-i-ne0
-returns-then-g-i-ne0 c = sym (all_zero_fails _ c.loop-i.i c.if-g-i-ne0.true)
-
-pub loop-i-preserved : goal.loop-i-preserved
-loop-i-preserved c = (omega arith, below_more _ _ c.loop-i.invariant.1 c.if-g-i-ne0.false)
+every_all : (test : ℕ → Bool) (f : List ℕ) → list_all test f ≡ every test f
+unfolding every
+every_all test [] = refl
+every_all test (a ∷ f) = ap (λ (b : Bool). test a && b) (every_all test f)
 
 pub returns : goal.returns
-returns c = sym (all_zero_intro _ (λ k h. c.loop-i.invariant.1 k (omega arith)))
+unfolding all_zero
+returns c =
+    all_from_yields_List (λ (a : ℕ). eqb a 0) _ _ c.all.result c.all.ensures.ran (YieldsList-from_slice c.args.g.now cc) (λ x b q k. search (rules, tests))
+    ∙ every_all (λ a. eqb a 0) c.args.g.now

@@ -1,14 +1,16 @@
--- `solver::polynomial::value` meets its contract. The invariant: v is the value of the coefficients from i on.
-use mathlib.Core.Path.{◌≡◌, sym}
-use mathlib.Core.List.{List}
+-- `solver::polynomial::value` meets its contract.
+use mathlib.Core.Path.{◌≡◌, sym, ap, ◌∙◌}
+use mathlib.Core.List.{List, reverse}
 use Prim.Native.Nat.{ℕ, suc, ◌+◌, ◌-◌, ◌*◌, ◌%◌, ◌<◌}
 use native.Mathlib.Nat.{mod-lt, zero-mod}
 use native.Mathlib.Omega.{arith}
 use lib.ListN.{length, get_or, drop}
 use lib.Seq.{drop-cons, drop-length}
+use Rattle.std.proofs.lemmas.Iterator.Adapters.{YieldsList-from_rev_slice}
+use Rattle.std.proofs.lemmas.Iterator.Consumers.{YieldsList-turn, YieldsList-end}
+use Rattle.std.proofs.lemmas.List.{get_or-reverse, length-append, get_or_default, length-reverse}
 use Rattle.theory.specs.Polynomial.{value}
 use Rattle.theory.proofs.Numbers.Congruence.{cong_refl, cong_add, cong_mul, cong_mod}
-use Rattle.solver.proofs.Tables.{product_fits, sum_fits}
 use Rattle.solver.proofs.polynomial.value.Goals as goal
 
 -- one step of Horner's rule, from the coefficient of index i
@@ -18,26 +20,40 @@ unfolding value
 horner f i x m v h e =
     rw (drop-cons f i 0 h, e) (cong_add (cong_refl {x = get_or f i 0}) (cong_mul (cong_refl {x = x}) (cong_mod m _))).same
 
-pub loop-i-init : goal.loop-i-init
+pub loop-a-init : goal.loop-a-init
 unfolding value
-loop-i-init c = (omega arith, omega arith, sym (rw (drop-length c.args.g.now) (zero-mod c.args.m)))
+loop-a-init c =
+    let none : length c.args.g.now - 0 ≡ length c.args.g.now = omega arith in
+    (tt, tt, omega arith, sym (rw (none, drop-length c.args.g.now) (zero-mod c.args.m)))
 
-pub loop-i-preserved : goal.loop-i-preserved
-loop-i-preserved c =
-    let one : suc (c.loop-i.i - 1) ≡ c.loop-i.i = omega arith in (
-      omega arith,
+-- the last coefficient that is left
+last : (f : List ℕ) (k n x m v a : ℕ) → k < length f → n ≡ suc k → a ≡ get_or (reverse f) k a → v ≡ value (drop (length f - k) f) x % m
+    → (a + x * v) % m ≡ value (drop (length f - n) f) x % m
+last f k n x m v a h en e w =
+    let i = length f - n in
+    let one : suc i ≡ length f - k = omega arith in
+    let at : length f - 1 - k ≡ i = omega arith in
+    let q : a ≡ get_or f i 0 = e ∙ get_or-reverse f k a h ∙ ap (λ (j : ℕ). get_or f j a) at ∙ get_or_default f i a 0 (omega arith) in
+    rw q (horner f i x m v (omega arith) (rw one w))
+
+pub loop-a-preserved : goal.loop-a-preserved
+loop-a-preserved c =
+    let g = c.args.g.now in
+    let l = c.loop-a in
+    let road = YieldsList-from_rev_slice {s = c.into_iter-a-iterator.result} g (cc) in
+    let turn = YieldsList-turn road l.yielded l.a-iterator l.yielded_by c.next.result c.next.new.self c.in-Some.a c.in-Some.is c.next.ensures.steps in (
+      tt,
+      tt,
       mod-lt _ (omega arith),
-      horner c.args.g.now (c.loop-i.i - 1) c.args.x c.args.m c.loop-i.v (omega arith)
-          (rw one c.loop-i.invariant.2),
+      last g (length l.yielded) _ c.args.x c.args.m l.v c.in-Some.a.now (omega (arith, turn.0, length-reverse g)) (simp length-append (omega arith))
+          turn.1 l.invariant.3,
     )
 
 pub returns : goal.returns
 returns c =
-    let none : c.loop-i.i ≡ 0 = omega arith in
-    rw none at c.loop-i.invariant.2
-
-pub overflow_mul-v : goal.overflow_mul-v
-overflow_mul-v c = product_fits _ _ (omega arith) (omega arith)
-
-pub overflow_add-v : goal.overflow_add-v
-overflow_add-v c = sum_fits _ _ _ (omega arith) (omega arith) (omega arith)
+    let g = c.args.g.now in
+    let l = c.loop-a in
+    let road = YieldsList-from_rev_slice {s = c.into_iter-a-iterator.result} g (cc) in
+    let end = YieldsList-end road l.yielded l.a-iterator l.yielded_by c.next.result c.next.new.self c.in-None.is c.next.ensures.steps in
+    let none : length g - length l.yielded ≡ 0 = omega (arith, end.1, length-reverse g) in
+    rw none at l.invariant.3

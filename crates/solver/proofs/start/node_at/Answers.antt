@@ -2,18 +2,12 @@
 use mathlib.Core.Path.{◌≡◌, ap₂, ◌∙◌}
 use Prim.Native.Nat.{ℕ, ◌-◌, ◌^◌}
 use native.Mathlib.Omega.{arith}
-use mir.Syntax.{w32}
-use mir.ValLaws.{to_z-of_z}
 use Rattle.theory.specs.Polynomial.{reduce}
 use Rattle.theory.specs.SignedClass.{natural}
 use Rattle.theory.proofs.Numbers.Prime.{prime_pos}
 use Rattle.numbers.proofs.Saturated.{saturated_power}
-use Rattle.numbers.proofs.Words.{wide_fits, wide_read}
+use Rattle.numbers.proofs.Words.{wide_read}
 use Rattle.solver.proofs.start.node_at.Goals as goal
-
-pub overflow_cast-residue : goal.overflow_cast-residue
-overflow_cast-residue c =
-    rw (to_z-of_z w32 c.args.residue c.ranges.residue) (wide_fits c.args.residue c.ranges.residue)
 
 pub returns : goal.returns
 unfolding natural

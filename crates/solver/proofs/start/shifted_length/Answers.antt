@@ -10,4 +10,4 @@ returns-then-t-eq0 c = let a = c.args in sym (length_top a.c a.e a.t c.if-t-eq0.
 pub returns : goal.returns
 returns c =
     let a = c.args in
-    c.smaller.ensures ∙ sym (length_deep a.c a.e a.t (omega (arith, c.if-t-eq0.false)))
+    c.min.ensures ∙ sym (length_deep a.c a.e a.t (omega (arith, c.if-t-eq0.false)))

@@ -1,11 +1,11 @@
 -- `solver::start::start` meets its contract.
-use mathlib.Core.Path.{◌≡◌, sym, ap, ◌∙◌, subst, subst₂}
-use mathlib.Core.List.{List, ◌++◌}
+use mathlib.Core.Path.{◌≡◌, sym, ap, ◌∙◌, subst}
+use mathlib.Core.List.{List}
 use Prim.Native.Nat.{ℕ, ◌≤◌}
 use native.Mathlib.Omega.{arith}
 use lib.IntN.{ℤ}
-use lib.ListN.{length, take, drop, replicate}
-use lib.Seq.{length-take-le, take_at}
+use lib.ListN.{length, take, replicate}
+use lib.Seq.{length-take-le}
 use mir.Syntax.{w32}
 use mir.ValLaws.{to_z-of_z}
 use Rattle.theory.specs.Class.{Class, IsClass}
@@ -76,18 +76,15 @@ module _ (c : After-shifted_length-len) where
     capped : length g ≡ shifted_length (length f) M.exponent d.level
     capped = long ∙ len_is
 
-    table : take len (g ++ drop len blank) ≡ g
-    table = take_at g (drop len blank) len long
-
   residues : (g : List ℕ) → Residues M.power g (shifted c.node_at-node.result.residue c.node_at-node.result.power f)
       → Residues M.power g (shifted x.residue x.power f)
   residues g = subst (λ (y : Node). Residues M.power g (shifted y.residue y.power f)) node-is
 
-pub slice_bounds-g-end : goal.slice_bounds-g-end
-slice_bounds-g-end c = len-few (goal.at.slice_bounds-g-end c).After-shifted_length-len
+pub slice_bounds-table-end : goal.slice_bounds-table-end
+slice_bounds-table-end c = len-few (goal.at.slice_bounds-table-end c).After-shifted_length-len
 
-pub slice_bounds-shift-end : goal.slice_bounds-shift-end
-slice_bounds-shift-end c = sym (blank-long (goal.at.slice_bounds-shift-end c).After-shifted_length-len)
+pub slice_bounds-g-end : goal.slice_bounds-g-end
+slice_bounds-g-end c = sym (blank-long (goal.at.slice_bounds-g-end c).After-shifted_length-len)
 
 pub shift-requires : goal.shift-requires
 shift-requires c =
@@ -111,10 +108,9 @@ settle-settled-requires c =
     let l = c.shift.auto.g in
     let few = c.requires.2 in
     let r = residues s g c.shift.ensures in (
-      len-few s,
-      subst₂ (λ (h : List ℕ) (y : Node). AtNode h (M s) y) (sym (table s g l)) (sym (node-is s))
+      subst (λ (y : Node). AtNode g (M s) y) (sym (node-is s))
           (start-at (I s) (is_class s) (f s) (capped s g l) r few),
-      rw (table s g l) (omega (arith, c.requires.4, start-most (I s) (is_class s) (f s) (capped s g l) r few)),
+      omega (arith, c.requires.4, start-most (I s) (is_class s) (f s) (capped s g l) r few),
     )
 
 pub returns : goal.returns
@@ -123,7 +119,7 @@ returns c =
     let g = c.shift.new.g in
     let l = c.shift.auto.g in
     let done =
-    subst₂ (λ (h : List ℕ) (y : Node).
-    Done (zeros h (M s).p (M s).exponent) (M s).p y c.args.k c.settle-settled.result c.args.out.now c.settle-settled.new.out)
-    (table s g l) (node-is s) c.settle-settled.ensures.classes in
+    subst (λ (y : Node).
+    Done (zeros g (M s).p (M s).exponent) (M s).p y c.args.k c.settle-settled.result c.args.out.now c.settle-settled.new.out)
+    (node-is s) c.settle-settled.ensures.classes in
     start-added (I s) (is_class s) (f s) (capped s g l) (residues s g c.shift.ensures) done

@@ -6,7 +6,4 @@ use Rattle.theory.specs.inner.Overwritten.{Overwritten}
 use Rattle.solver.proofs.taylor.horner_step.Given as goal
 
 abbrev pub invariant-loop-i : goal.invariant-loop-i
-invariant-loop-i l = (1 ≤ l.i) × (l.i ≤ l.top) × Overwritten (λ k. (coef (l.a ∷ l.initial.g) k + l.c * coef l.initial.g k) % l.m) l.i l.top l.initial.g l.g
-
-abbrev pub decreases-loop-i : goal.decreases-loop-i
-decreases-loop-i l = l.i
+invariant-loop-i l = (1 ≤ l.i) × Overwritten (λ k. (coef (l.a ∷ l.initial.g) k + l.c * coef l.initial.g k) % l.m) l.i l.top l.initial.g l.g

@@ -1,5 +1,5 @@
--- `solver::taylor::taylor` meets its contract. The invariant: g is the shift of the coefficients from j on.
-use mathlib.Core.Path.{◌≡◌, refl, sym, ◌∙◌}
+-- `solver::taylor::taylor` meets its contract.
+use mathlib.Core.Path.{◌≡◌, sym, ◌∙◌}
 use Prim.Native.Nat.{suc, ◌-◌, ◌<◌}
 use native.Mathlib.Nat.{zero-mod}
 use native.Mathlib.Omega.{arith}
@@ -13,14 +13,7 @@ pub loop-j-init : goal.loop-j-init
 unfolding taylor
 loop-j-init c =
     let a = c.args in
-    (omega arith, refl, record { at = λ i l. c.requires.4 i ∙ sym (rw (drop-length a.h.now) (zero-mod a.m)) })
-
-pub horner_step-requires : goal.horner_step-requires
-horner_step-requires c =
-    let n = c.smaller-top.ensures in
-    let pre = c.requires in
-    let long = c.loop-j.invariant.1 in
-    (omega (arith, n, pre.0, long), omega (arith, n), pre.1, pre.2, omega (arith, c.type_inv.h (c.loop-j.j - 1)), pre.3)
+    record { at = λ i l. c.requires.4 i ∙ sym (rw (drop-length a.h.now) (zero-mod a.m)) }
 
 pub loop-j-preserved : goal.loop-j-preserved
 loop-j-preserved c =
@@ -28,14 +21,6 @@ loop-j-preserved c =
     let a = c.args in
     let j = c.loop-j.j in
     let h : j - 1 < length a.h.now = omega arith in
-    let one : suc (j - 1) ≡ j = omega arith in (
-      omega arith,
-      step.auto.g ∙ c.loop-j.invariant.1,
-      rw (drop-cons a.h.now (j - 1) 0 h, one) (taylor-step (get_or a.h.now (j - 1) 0) a.c (drop j a.h.now) c.loop-j.invariant.2
-          (omega (arith, c.smaller-top.ensures, length-drop j a.h.now)) step.ensures),
-    )
-
-pub returns : goal.returns
-returns c =
-    let none : c.loop-j.j ≡ 0 = omega arith in
-    rw none at c.loop-j.invariant.2
+    let one : suc (j - 1) ≡ j = omega arith in
+    rw (drop-cons a.h.now (j - 1) 0 h, one) (taylor-step (get_or a.h.now (j - 1) 0) a.c (drop j a.h.now) c.loop-j.invariant
+    (omega (arith, c.min-top.ensures, length-drop j a.h.now)) step.ensures)

@@ -1,6 +1,6 @@
 -- The levels left fall: by one from `scan` to `settle`, and not from `settle` to `scan`.
 use mathlib.Core.Path.{◌≡◌}
-use Prim.Native.Nat.{◌+◌, ◌-◌, ◌*◌, ◌≤◌}
+use Prim.Native.Nat.{◌+◌, ◌*◌}
 use lib.ListN.{take}
 use Rattle.theory.specs.Polynomial.{zeros}
 use Rattle.solver.proofs.Counting.{counted}
@@ -13,11 +13,7 @@ decreases-scan l = 2 * l.node.left
 abbrev pub decreases-settle : goal.decreases-settle
 decreases-settle l = 2 * l.node.left + 1
 
-abbrev pub invariant-scan-loop-i : goal.invariant-scan-loop-i
-invariant-scan-loop-i l =
-    (l.i ≤ l.count)
-    × Scanned (zeros l.h l.over.p l.over.exponent) l.over.p l.node l.k (take l.i l.zeros) l.at l.all l.initial.out l.out
-    × (l.live ≡ counted l.h l.over l.node (take l.i l.zeros))
-
-abbrev pub decreases-scan-loop-i : goal.decreases-scan-loop-i
-decreases-scan-loop-i l = l.count - l.i
+abbrev pub invariant-scan-loop-zero : goal.invariant-scan-loop-zero
+invariant-scan-loop-zero l =
+    Scanned (zeros l.h l.over.p l.over.exponent) l.over.p l.node l.k (take l.zero-index l.zero-items) l.at l.all l.initial.out l.out
+    × (l.live ≡ counted l.h l.over l.node (take l.zero-index l.zero-items))

@@ -35,9 +35,6 @@ lowered_is : (M : PrimePower) {s s' q : ℕ} → s ≡ s' → q ≡ M.p ^ s'
     → record { p = M.p; exponent = M.exponent - s; power = M.power / q } ≡ lowered M s'
 lowered_is M e q = rw (e, q)
 
-pub least_valuation-s-requires : goal.least_valuation-s-requires
-least_valuation-s-requires c = (c.requires.0.prime.two, c.requires.2)
-
 pub overflow_cast-s : goal.overflow_cast-s
 overflow_cast-s c =
     let I = c.requires.0 in

@@ -23,9 +23,6 @@ pub returns-then-all_zero : goal.returns-then-all_zero
 returns-then-all_zero c =
     sym (common_power_none c.args.p c.args.g.now (sym c.all_zero.ensures ∙ c.if-all_zero.true))
 
-pub least_valuation-s-requires : goal.least_valuation-s-requires
-least_valuation-s-requires c = (c.requires.0, sym c.all_zero.ensures ∙ c.if-all_zero.false)
-
 pub overflow_cast-s : goal.overflow_cast-s
 overflow_cast-s c =
     let a = c.args in

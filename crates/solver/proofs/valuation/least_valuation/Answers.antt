@@ -1,4 +1,4 @@
--- `solver::valuation::least_valuation` meets its contract. The invariant: best is 64 lowered by the first i coefficients.
+-- `solver::valuation::least_valuation` meets its contract.
 use mathlib.Core.Path.{◌≡◌, ◌∙◌}
 use Prim.Native.Nat.{◌<◌}
 use native.Mathlib.Omega.{arith}
@@ -11,20 +11,20 @@ use Rattle.theory.proofs.Lists.Index.{index_of}
 use Rattle.solver.proofs.Lowest.{lowest_next, lowest-least}
 use Rattle.solver.proofs.valuation.least_valuation.Goals as goal
 
-pub loop-i-init : goal.loop-i-init
+pub loop-a-init : goal.loop-a-init
 unfolding nonzero
-loop-i-init c = search rules
+loop-a-init c = search rules
 
-pub loop-i-preserved : goal.loop-i-preserved
-loop-i-preserved c =
+pub loop-a-preserved : goal.loop-a-preserved
+loop-a-preserved c =
     let g = c.args.g.now in
-    let h : c.loop-i.i < length g = omega arith in
-    (omega arith, rw (take_next g c.loop-i.i 0 h, lowest_next, ← c.loop-i.invariant.1) c.lower-best.ensures)
+    let h : c.loop-a.a-index < length g = omega arith in
+    rw (take_next g c.loop-a.a-index 0 h, lowest_next, ← c.loop-a.invariant) c.lower-best.ensures
 
 pub returns : goal.returns
 returns c =
     let g = c.args.g.now in
-    let all : c.loop-i.i ≡ length g = omega arith in
-    c.loop-i.invariant.1
+    let all : c.loop-a.a-index ≡ length g = omega arith in
+    c.loop-a.invariant
     ∙ rw (all, take-length g) (lowest-least _ g (omega arith) c.requires.1 (λ a u.
     let (i, h, e) = index_of g 0 a u in omega (arith, c.type_inv.g i)))

@@ -1,6 +1,5 @@
 -- `solver::valuation::lower` meets its contract.
 use mathlib.Core.Path.{sym}
-use native.Mathlib.Omega.{arith}
 use Rattle.solver.proofs.Lowest.{lower_zero, lower_min}
 use Rattle.solver.proofs.valuation.lower.Goals as goal
 
@@ -10,7 +9,4 @@ returns-then-x-eq0 c = let a = c.args in sym (lower_zero a.p a.best a.x c.if-x-e
 pub returns : goal.returns
 returns c =
     let a = c.args in
-    rw (lower_min a.p a.best a.x c.if-x-eq0.false, ← c.valuation.ensures) c.smaller.ensures
-
-pub valuation-requires : goal.valuation-requires
-valuation-requires c = omega arith
+    rw (lower_min a.p a.best a.x c.if-x-eq0.false, ← c.valuation.ensures) c.min.ensures

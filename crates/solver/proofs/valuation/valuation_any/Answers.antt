@@ -1,7 +1,7 @@
 -- `solver::valuation::valuation_any` meets its contract. The invariant: p divides x v times more than y.
 use mathlib.Core.Path.{ap}
 use Prim.Native.Nat.{◌/◌, ◌<◌}
-use native.Mathlib.Nat.{div-lt_self, dvd_of_mod-eq-zero, le-div_iff_mul-le, le_of_dvd, mod-eq-zero_of_dvd, mul-div_cancel'}
+use native.Mathlib.Nat.{dvd_of_mod-eq-zero, le-div_iff_mul-le, le_of_dvd, mod-eq-zero_of_dvd, mul-div_cancel'}
 use native.Mathlib.Omega.{arith}
 use Rattle.theory.specs.Degree.{valuation}
 use Rattle.theory.proofs.Numbers.Valuation.{valuation-lt, valuation-times, valuation-none}
@@ -25,6 +25,3 @@ returns c =
       arith,
       valuation-none p (omega arith) c.loop-y.y (omega arith) (λ d. c.loop-y-test.false (mod-eq-zero_of_dvd p d)),
     )
-
-pub loop-y-smaller : goal.loop-y-smaller
-loop-y-smaller c = div-lt_self c.loop-y.invariant.0 (omega arith)

@@ -1,17 +1,16 @@
 -- Counting the zeros of a class and those of its digits, proved together.
-use mathlib.Core.Path.{◌≡◌, refl, sym, ap, ap₂, ◌∙◌, subst₂}
+use mathlib.Core.Path.{◌≡◌, refl, sym, ap, ap₂, ◌∙◌, subst, subst₂}
 use mathlib.Core.Bool.{true, false}
 use mathlib.Core.List.{List, ◌++◌}
 use Prim.Native.Nat.{ℕ, suc, ◌+◌, ◌-◌, ◌^◌, ◌≤◌, ◌<◌, min}
+use native.Mathlib.Nat.{le_refl}
 use native.Mathlib.Omega.{arith}
-use borrow.Author.Rules.{rules}
 use lib.ListN.{length, get_or, take, drop, replicate}
-use lib.Seq.{length-take-le, take_at}
+use lib.Seq.{length-take-le, take-length, take_all}
 use Rattle.theory.specs.Polynomial.{vanishes}
 use Rattle.theory.specs.Taylor.{shifted}
 use Rattle.theory.specs.Degree.{all_zero, primitive, least_valuation}
 use Rattle.theory.specs.Live.{sum_over}
-use Rattle.theory.specs.inner.Polynomial.{coef}
 use Rattle.theory.proofs.Lists.Fill.{replicate_taken}
 use Rattle.theory.proofs.Passing.{taken_prefix}
 use Rattle.numbers.specs.Saturated.{saturated}
@@ -24,7 +23,7 @@ use Rattle.solver.specs.inner.Counts.{zeros_at, Fits, Room, Added}
 use Rattle.solver.proofs.Added.{Plus, plus-some, part-long, part-fits, plus-parts}
 use Rattle.solver.proofs.Child.{modulus_pos, child-counts, child-at}
 use Rattle.solver.proofs.Node.{members-fit, level-lt}
-use Rattle.solver.proofs.Settling.{Quotient, quotient, first_entry, valuation-lt}
+use Rattle.solver.proofs.Settling.{Quotient, quotient, some_length, valuation-lt}
 use Rattle.solver.proofs.ZeroCounts.{zeros-finished, zeros-content, zeros-quotient, lower-most, last-in, last_out}
 use Rattle.solver.proofs.ZeroCounts.{below, digits-none, digits-room, digits-next, digits-all}
 use Rattle.solver.proofs.Zeros.{degree_modulo-lt}
@@ -32,51 +31,48 @@ use Rattle.solver.proofs.zero_counts.+count_class_count_digits.Goals as goal
 
 -- `count_class`
 
-module _ (len : ℕ) (g : List ℕ) {M : PrimePower} {x : Node} (N : AtNode (take len g) M x) {l : List ℕ} (room : Room (take len g) M x l)
+module _ (g : List ℕ) {M : PrimePower} {x : Node} (N : AtNode g M x) {l : List ℕ} (room : Room g M x l)
     {members : ℕ} (number : members ≡ saturated (M.p ^ x.left)) where
   members-are : members ≡ M.p ^ x.left
   members-are = number ∙ saturated-within _ (omega (arith, members-fit N.node))
 
   -- Where all coefficients are zero
 
-  all-added : all_zero (take len g) ≡ true → (i : ℕ) → zeros_at (take len g) M.p x.left i ≡ members
+  all-added : all_zero g ≡ true → (i : ℕ) → zeros_at g M.p x.left i ≡ members
   all-added z i = zeros-finished _ _ _ z i ∙ sym members-are
 
-  all_fit : all_zero (take len g) ≡ true → Fits M.exponent members l
+  all_fit : all_zero g ≡ true → Fits M.exponent members l
   all_fit z =
       record {
         there = omega (arith, room.long);
         fits = λ i u. omega (arith, all-added z i, room.fits i u);
       }
 
-  all-done : {l' : List ℕ} → all_zero (take len g) ≡ true → Plus (λ i. members) M.exponent l l' → Added (take len g) M x l l'
+  all-done : {l' : List ℕ} → all_zero g ≡ true → Plus (λ i. members) M.exponent l l' → Added g M x l l'
   all-done z a =
-      plus-some (zeros_at (take len g) M.p x.left) members M.exponent M.exponent (omega arith) a (λ i u. all-added z i)
+      plus-some (zeros_at g M.p x.left) members M.exponent M.exponent (omega arith) a (λ i u. all-added z i)
       (λ i low high. absurd (omega arith))
 
   -- Where some is not, and no level is left
 
-  module _ (some : all_zero (take len g) ≡ false) (none : x.left ≡ 0) {v : ℕ} (is : v ≡ lower_of M.p M.exponent (get_or g 0 0)) where
+  module _ (some : all_zero g ≡ false) (none : x.left ≡ 0) {v : ℕ} (is : v ≡ lower_of M.p M.exponent (get_or g 0 0)) where
     two : 2 ≤ M.p
     two = N.modulus.prime.two
 
-    v-is : v ≡ lower_of M.p M.exponent (coef (take len g) 0)
-    v-is = is ∙ ap (lower_of M.p M.exponent) (sym (first_entry len g some))
-
     last-most : v ≤ M.exponent
-    last-most = omega (arith, v-is, lower-most (take len g) M.p two M.exponent)
+    last-most = omega (arith, is, lower-most g M.p two M.exponent)
 
-    none_below : (i k : ℕ) → zeros_at (take len g) M.p 0 i ≡ k → zeros_at (take len g) M.p x.left i ≡ k
-    none_below i k e = ap (λ (n : ℕ). zeros_at (take len g) M.p n i) none ∙ e
+    none_below : (i k : ℕ) → zeros_at g M.p 0 i ≡ k → zeros_at g M.p x.left i ≡ k
+    none_below i k e = ap (λ (n : ℕ). zeros_at g M.p n i) none ∙ e
 
-    last-added : (i : ℕ) → i < v → zeros_at (take len g) M.p x.left i ≡ members
+    last-added : (i : ℕ) → i < v → zeros_at g M.p x.left i ≡ members
     last-added i u =
-        none_below i (M.p ^ 0) (last-in (take len g) M.p two M.exponent i (omega (arith, v-is)))
+        none_below i (M.p ^ 0) (last-in g M.p two M.exponent i (omega (arith, is)))
         ∙ ap (λ (n : ℕ). M.p ^ n) (sym none)
         ∙ sym members-are
 
-    last-not : (i : ℕ) → v ≤ i → i < M.exponent → zeros_at (take len g) M.p x.left i ≡ 0
-    last-not i low high = none_below i 0 (last_out (take len g) M.p two M.exponent i (omega (arith, v-is)) high)
+    last-not : (i : ℕ) → v ≤ i → i < M.exponent → zeros_at g M.p x.left i ≡ 0
+    last-not i low high = none_below i 0 (last_out g M.p two M.exponent i (omega (arith, is)) high)
 
     last_fit : Fits v members l
     last_fit =
@@ -85,36 +81,32 @@ module _ (len : ℕ) (g : List ℕ) {M : PrimePower} {x : Node} (N : AtNode (tak
           fits = λ i u. omega (arith, last-added i u, room.fits i (omega (arith, last-most)));
         }
 
-    last-done : {l' : List ℕ} → Plus (λ i. members) v l l' → Added (take len g) M x l l'
-    last-done a = plus-some (zeros_at (take len g) M.p x.left) members v M.exponent last-most a last-added last-not
+    last-done : {l' : List ℕ} → Plus (λ i. members) v l l' → Added g M x l l'
+    last-done a = plus-some (zeros_at g M.p x.left) members v M.exponent last-most a last-added last-not
 
   -- Else the coefficients are divided by p^s, and the digits are counted
 
-  module _ (some : all_zero (take len g) ≡ false) (deep : 0 < x.left) (fits : len ≤ length g) {q : List ℕ} {R : PrimePower}
-      (long : length q ≡ length (take len g)) (is : q ≡ primitive M.p (take len g))
-      (left : R ≡ lowered M (least_valuation M.p (take len g))) where
-    divided_is : Quotient (take len g) M x
+  module _ (some : all_zero g ≡ false) (deep : 0 < x.left) {q : List ℕ} {R : PrimePower} (is : q ≡ primitive M.p g)
+      (left : R ≡ lowered M (least_valuation M.p g)) where
+    divided_is : Quotient g M x
     divided_is = quotient N some deep
 
-    h-is : take len (q ++ drop len g) ≡ primitive M.p (take len g)
-    h-is = take_at q (drop len g) len (long ∙ length-take-le len g fits) ∙ is
-
-    s-is : M.exponent - R.exponent ≡ least_valuation M.p (take len g)
+    s-is : M.exponent - R.exponent ≡ least_valuation M.p g
     s-is = omega (arith, ap (λ (D : PrimePower). D.exponent) left, valuation-lt N.modulus N.below some)
 
     rest-is : R.exponent ≡ M.exponent - (M.exponent - R.exponent)
     rest-is = omega (arith, ap (λ (D : PrimePower). D.exponent) left, valuation-lt N.modulus N.below some)
 
     -- one power of p for another
-    one_power : (i : ℕ) → zeros_at (take len g) M.p x.left (M.exponent - R.exponent + i) ≡ zeros_at (take len (q ++ drop len g)) R.p x.left i
+    one_power : (i : ℕ) → zeros_at g M.p x.left (M.exponent - R.exponent + i) ≡ zeros_at q R.p x.left i
     one_power i =
-        ap (λ (k : ℕ). zeros_at (take len g) M.p x.left (k + i)) s-is
+        ap (λ (k : ℕ). zeros_at g M.p x.left (k + i)) s-is
         ∙ zeros-quotient divided_is x.left i
-        ∙ sym (ap₂ (λ (h : List ℕ) (p : ℕ). zeros_at h p x.left i) h-is (ap (λ (D : PrimePower). D.p) left))
+        ∙ sym (ap₂ (λ (h : List ℕ) (p : ℕ). zeros_at h p x.left i) is (ap (λ (D : PrimePower). D.p) left))
 
-    content : (i : ℕ) → i < M.exponent - R.exponent → zeros_at (take len g) M.p x.left i ≡ members
+    content : (i : ℕ) → i < M.exponent - R.exponent → zeros_at g M.p x.left i ≡ members
     content i u =
-        zeros-content (take len g) M.p x.left N.modulus.prime.two i (omega (arith, s-is)) ∙ sym members-are
+        zeros-content g M.p x.left N.modulus.prime.two i (omega (arith, s-is)) ∙ sym members-are
 
     content_fit : Fits (M.exponent - R.exponent) members l
     content_fit =
@@ -124,13 +116,13 @@ module _ (len : ℕ) (g : List ℕ) {M : PrimePower} {x : Node} (N : AtNode (tak
         }
 
     module _ {l' : List ℕ} (a : Plus (λ i. members) (M.exponent - R.exponent) l l') where
-      digits_ask : Primitive (take len (q ++ drop len g)) R x
-          × Room (take len (q ++ drop len g)) R x
+      digits_ask : Primitive q R x
+          × Room q R x
           (take (length l' - (M.exponent - R.exponent)) (drop (M.exponent - R.exponent) l'))
       digits_ask =
-          let A = zeros_at (take len g) M.p x.left in
-          let B = zeros_at (take len (q ++ drop len g)) R.p x.left in (
-            subst₂ (λ (h : List ℕ) (D : PrimePower). Primitive h D x) (sym h-is) (sym left) divided_is.primitive_at,
+          let A = zeros_at g M.p x.left in
+          let B = zeros_at q R.p x.left in (
+            subst₂ (λ (h : List ℕ) (D : PrimePower). Primitive h D x) (sym is) (sym left) divided_is.primitive_at,
             record {
               long = part-long A B members (M.exponent - R.exponent) M.exponent R.exponent room.long (omega arith) rest-is a one_power;
               fits = part-fits A B members (M.exponent - R.exponent) M.exponent R.exponent room.long (omega arith) rest-is a one_power
@@ -139,55 +131,59 @@ module _ (len : ℕ) (g : List ℕ) {M : PrimePower} {x : Node} (N : AtNode (tak
           )
 
       parts-done : {ys : List ℕ}
-          → Plus (zeros_at (take len (q ++ drop len g)) R.p x.left) R.exponent
+          → Plus (zeros_at q R.p x.left) R.exponent
           (take (length l' - (M.exponent - R.exponent)) (drop (M.exponent - R.exponent) l')) ys
-          → Added (take len g) M x l
+          → Added g M x l
           (take (M.exponent - R.exponent) l'
           ++ (ys ++ drop (length l' - (M.exponent - R.exponent)) (drop (M.exponent - R.exponent) l')))
       parts-done b =
-          plus-parts (zeros_at (take len g) M.p x.left) (zeros_at (take len (q ++ drop len g)) R.p x.left) members
+          plus-parts (zeros_at g M.p x.left) (zeros_at q R.p x.left) members
           (M.exponent - R.exponent) M.exponent R.exponent room.long (omega arith) rest-is a one_power b content
 
 pub count_class-overflow_cast-node : goal.count_class-overflow_cast-node
-count_class-overflow_cast-node t c = omega (arith, level-lt c.requires.1.node)
+count_class-overflow_cast-node t c = omega (arith, level-lt c.requires.0.node)
 
 pub count_class-add-requires : goal.count_class-add-requires
 count_class-add-requires t c =
-    all_fit c.args.len c.args.g c.requires.1 c.requires.2 c.power-members.ensures (sym c.all_zero.ensures ∙ c.if-all_zero.true)
+    all_fit c.args.g.now c.requires.0 c.requires.1 c.power-members.ensures (sym c.all_zero.ensures ∙ c.if-all_zero.true)
 
 pub count_class-returns-then-all_zero : goal.count_class-returns-then-all_zero
 count_class-returns-then-all_zero t c =
-    all-done c.args.len c.args.g c.requires.1 c.requires.2 c.power-members.ensures (sym c.all_zero.ensures ∙ c.if-all_zero.true)
+    all-done c.args.g.now c.requires.0 c.requires.1 c.power-members.ensures (sym c.all_zero.ensures ∙ c.if-all_zero.true)
     c.add.ensures
 
 pub count_class-add-requires-then-node-eq0 : goal.count_class-add-requires-then-node-eq0
 count_class-add-requires-then-node-eq0 t c =
-    last_fit c.args.len c.args.g c.requires.1 c.requires.2 c.power-members.ensures (sym c.all_zero.ensures ∙ c.if-all_zero.false)
+    last_fit c.args.g.now c.requires.0 c.requires.1 c.power-members.ensures (sym c.all_zero.ensures ∙ c.if-all_zero.false)
     c.if-node-eq0.true c.lower-v.ensures
 
 pub count_class-returns-then-node-eq0 : goal.count_class-returns-then-node-eq0
 count_class-returns-then-node-eq0 t c =
-    last-done c.args.len c.args.g c.requires.1 c.requires.2 c.power-members.ensures (sym c.all_zero.ensures ∙ c.if-all_zero.false)
+    last-done c.args.g.now c.requires.0 c.requires.1 c.power-members.ensures (sym c.all_zero.ensures ∙ c.if-all_zero.false)
     c.if-node-eq0.true c.lower-v.ensures c.add-then-node-eq0.ensures
+
+-- there is a constant coefficient, as not all are zero
+pub count_class-bounds-g-0 : goal.count_class-bounds-g-0
+count_class-bounds-g-0 t c = some_length c.args.g.now (sym c.all_zero.ensures ∙ c.if-all_zero.false)
 
 pub count_class-add-requires-2 : goal.count_class-add-requires-2
 count_class-add-requires-2 t c =
-    content_fit c.args.len c.args.g c.requires.1 c.requires.2 c.power-members.ensures (sym c.all_zero.ensures ∙ c.if-all_zero.false)
-    (omega (arith, c.if-node-eq0.false)) (search rules) c.make_primitive-rest.auto.g c.make_primitive-rest.ensures.quotient
+    content_fit c.args.g.now c.requires.0 c.requires.1 c.power-members.ensures (sym c.all_zero.ensures ∙ c.if-all_zero.false)
+    (omega (arith, c.if-node-eq0.false)) c.make_primitive-rest.ensures.quotient
     c.make_primitive-rest.ensures.modulus
 
 pub count_class-count_digits-requires : goal.count_class-count_digits-requires
 count_class-count_digits-requires t c = (
   omega (arith, c.decreases),
-  digits_ask c.args.len c.args.g c.requires.1 c.requires.2 c.power-members.ensures (sym c.all_zero.ensures ∙ c.if-all_zero.false)
-      (omega (arith, c.if-node-eq0.false)) (search rules) c.make_primitive-rest.auto.g c.make_primitive-rest.ensures.quotient
+  digits_ask c.args.g.now c.requires.0 c.requires.1 c.power-members.ensures (sym c.all_zero.ensures ∙ c.if-all_zero.false)
+      (omega (arith, c.if-node-eq0.false)) c.make_primitive-rest.ensures.quotient
       c.make_primitive-rest.ensures.modulus c.add-2.ensures,
 )
 
 pub count_class-returns : goal.count_class-returns
 count_class-returns t c =
-    parts-done c.args.len c.args.g c.requires.1 c.requires.2 c.power-members.ensures (sym c.all_zero.ensures ∙ c.if-all_zero.false)
-    (omega (arith, c.if-node-eq0.false)) (search rules) c.make_primitive-rest.auto.g c.make_primitive-rest.ensures.quotient
+    parts-done c.args.g.now c.requires.0 c.requires.1 c.power-members.ensures (sym c.all_zero.ensures ∙ c.if-all_zero.false)
+    (omega (arith, c.if-node-eq0.false)) c.make_primitive-rest.ensures.quotient
     c.make_primitive-rest.ensures.modulus c.add-2.ensures c.count_digits.ensures
 
 -- The loop of `count_digits`: the digits are found, and below each there are `cap` coefficients
@@ -199,12 +195,13 @@ blank = replicate 65 0
 blank-long : {cap : ℕ} → cap ≤ 65 → length (take cap blank) ≡ cap
 blank-long {cap} few = length-take-le cap blank few
 
-digit_lt : {f : List ℕ} {M : PrimePower} {x : Node} → Primitive f M x → (digits : List ℕ) (i : ℕ) {number : ℕ} → number ≤ length digits
-    → take number digits ≡ zero_digits M.p f → i < number → get_or digits i 0 < M.p
-digit_lt {f} {M} P digits i {number} fits found h = (taken_prefix (vanishes M.p f) M.p number i digits found fits h).0
+digit_lt : {f : List ℕ} {M : PrimePower} {x : Node} → Primitive f M x → (digits : List ℕ) (i : ℕ) → digits ≡ zero_digits M.p f
+    → i < length digits → get_or digits i 0 < M.p
+digit_lt {f} {M} P digits i found h =
+    (taken_prefix (vanishes M.p f) M.p (length digits) i digits (take-length digits ∙ found) (le_refl (length digits)) h).0
 
-module _ {h : List ℕ} {M : PrimePower} {x : Node} (P : Primitive h M x) (digits : List ℕ) (i : ℕ) {number : ℕ}
-    (fits : number ≤ length digits) (found : take number digits ≡ zero_digits M.p h) (i_lt : i < number) {cap : ℕ} {g : List ℕ}
+module _ {h : List ℕ} {M : PrimePower} {x : Node} (P : Primitive h M x) (digits : List ℕ) (i : ℕ)
+    (found : digits ≡ zero_digits M.p h) (i_lt : i < length digits) {cap : ℕ} {g : List ℕ}
     (capped : cap ≡ min M.exponent (length h)) (long : length g ≡ length (take cap blank))
     (r : Residues M.power g (shifted (get_or digits i 0) M.p h)) where
   cap-few : cap ≤ 65
@@ -213,93 +210,85 @@ module _ {h : List ℕ} {M : PrimePower} {x : Node} (P : Primitive h M x) (digit
   same_long : length g ≡ cap
   same_long = long ∙ blank-long cap-few
 
-  table : take cap (g ++ drop cap blank) ≡ g
-  table = take_at g (drop cap blank) cap same_long
-
   left : x.left ≡ suc (x.left - 1)
   left = omega (arith, P.deep)
 
   below-is : (k : ℕ) → k < M.exponent → zeros_at g M.p (x.left - 1) k ≡ below h M.p (x.left - 1) k (get_or digits i 0)
   below-is k u = child-counts P (get_or digits i 0) (same_long ∙ capped) r (x.left - 1) k u
 
-  child_there : {y : Node} → y ≡ child_at x M.p (get_or digits i 0) → AtNode (take cap (g ++ drop cap blank)) M y
-  child_there e = rw (table, e) (child-at P (get_or digits i 0) (same_long ∙ capped) r (digit_lt P digits i fits found i_lt))
+  child_there : {y : Node} → y ≡ child_at x M.p (get_or digits i 0) → AtNode g M y
+  child_there e = rw e (child-at P (get_or digits i 0) (same_long ∙ capped) r (digit_lt P digits i found i_lt))
 
   module _ {counts₀ counts : List ℕ} (room : Room h M x counts₀)
       (so : Plus (λ k. sum_over (below h M.p (x.left - 1) k) (take i digits)) M.exponent counts₀ counts)
       {y : Node} (e : y ≡ child_at x M.p (get_or digits i 0)) where
     -- the counts below it have room
-    child_room : Room (take cap (g ++ drop cap blank)) M y counts
+    child_room : Room g M y counts
     child_room =
-        rw (table, e) (record {
+        rw e (record {
           long = so.long ∙ room.long;
           fits =
-              digits-room h M.p (x.left - 1) digits refl left number i i_lt fits found room so g below-is;
+              digits-room h M.p (x.left - 1) digits refl left i i_lt found room so g below-is;
         })
 
-    child_done : {counts' : List ℕ} → Added (take cap (g ++ drop cap blank)) M y counts counts'
+    child_done : {counts' : List ℕ} → Added g M y counts counts'
         → Plus (λ k. sum_over (below h M.p (x.left - 1) k) (take (i + 1) digits)) M.exponent counts₀ counts'
     child_done {counts'} a =
-        digits-next h M.p (x.left - 1) digits refl left number i i_lt fits found room so g below-is
-        (subst₂ (λ (q : List ℕ) (z : Node). Added q M z counts counts') table e a)
+        digits-next h M.p (x.left - 1) digits refl left i i_lt found room so g below-is
+        (subst (λ (z : Node). Added g M z counts counts') e a)
 
-pub count_digits-loop-i-init : goal.count_digits-loop-i-init
-count_digits-loop-i-init t c = (omega arith, digits-none _ _ _ _ _)
+pub count_digits-loop-zero-init : goal.count_digits-loop-zero-init
+count_digits-loop-zero-init t c = digits-none _ _ _ _ _
 
 pub count_digits-shift-requires : goal.count_digits-shift-requires
 count_digits-shift-requires t c =
     let P = c.requires.0 in
     let I = P.at.modulus in
-    let few : c.smaller-cap.result ≤ 65 = omega (arith, c.smaller-cap.ensures, P.at.short) in
-    let low = digit_lt P c.zero_digits-number.new.zeros c.loop-i.i
-    (omega (arith, c.zero_digits-number.auto.zeros, c.zero_digits-number.ensures.0)) c.zero_digits-number.ensures.1 c.loop-i-test.true in
+    let few : c.min-cap.result ≤ 65 = omega (arith, c.min-cap.ensures, P.at.short) in
+    let digits = take c.zero_digits-number.result c.zero_digits-number.new.zeros in
+    let low = digit_lt P digits c.loop-zero.zero-index c.zero_digits-number.ensures.1 c.loop-zero-test.true in
     let some = degree_modulo-lt c.args.over.p c.args.h.now P.nonzero in (
-      omega (arith, blank-long few, c.smaller-cap.ensures, P.precise, some),
+      omega (arith, blank-long few, c.min-cap.ensures, P.precise, some),
       modulus_pos I,
       I.fits,
       omega (arith, low, I.small),
       omega (arith, I.small),
-      replicate_taken 0 65 c.smaller-cap.result,
+      replicate_taken 0 65 c.min-cap.result,
     )
 
 pub count_digits-child-requires : goal.count_digits-child-requires
 count_digits-child-requires t c =
-    let P = c.requires.0 in (
+    let P = c.requires.0 in
+    let digits = take c.zero_digits-number.result c.zero_digits-number.new.zeros in (
       P.at.node,
       P.deep,
-      digit_lt P c.zero_digits-number.new.zeros c.loop-i.i
-          (omega (arith, c.zero_digits-number.auto.zeros, c.zero_digits-number.ensures.0)) c.zero_digits-number.ensures.1
-          c.loop-i-test.true,
+      digit_lt P digits c.loop-zero.zero-index c.zero_digits-number.ensures.1 c.loop-zero-test.true,
     )
 
 pub count_digits-count_class-requires : goal.count_digits-count_class-requires
 count_digits-count_class-requires t c =
     let P = c.requires.0 in
-    let digits = c.zero_digits-number.new.zeros in
-    let fits : c.zero_digits-number.result ≤ length digits = omega (arith, c.zero_digits-number.auto.zeros, c.zero_digits-number.ensures.0) in (
+    let digits = take c.zero_digits-number.result c.zero_digits-number.new.zeros in (
       omega (arith, c.decreases, P.deep, ap (λ (y : Node). y.left) c.child.ensures),
       (
-        omega (arith, c.smaller-cap.ensures, P.at.short),
-        child_there P digits c.loop-i.i fits c.zero_digits-number.ensures.1 c.loop-i-test.true c.smaller-cap.ensures c.shift.auto.g
+        child_there P digits c.loop-zero.zero-index c.zero_digits-number.ensures.1 c.loop-zero-test.true c.min-cap.ensures c.shift.auto.g
             c.shift.ensures c.child.ensures,
-        child_room P digits c.loop-i.i fits c.zero_digits-number.ensures.1 c.loop-i-test.true c.smaller-cap.ensures c.shift.auto.g
-            c.shift.ensures c.requires.1 c.loop-i.invariant.1 c.child.ensures,
+        child_room P digits c.loop-zero.zero-index c.zero_digits-number.ensures.1 c.loop-zero-test.true c.min-cap.ensures c.shift.auto.g
+            c.shift.ensures c.requires.1 c.loop-zero.invariant c.child.ensures,
       ),
     )
 
-pub count_digits-loop-i-preserved : goal.count_digits-loop-i-preserved
-count_digits-loop-i-preserved t c =
+pub count_digits-loop-zero-preserved : goal.count_digits-loop-zero-preserved
+count_digits-loop-zero-preserved t c =
     let P = c.requires.0 in
-    let digits = c.zero_digits-number.new.zeros in
-    let fits : c.zero_digits-number.result ≤ length digits = omega (arith, c.zero_digits-number.auto.zeros, c.zero_digits-number.ensures.0) in (
-      omega (arith, c.loop-i-test.true),
-      child_done P digits c.loop-i.i fits c.zero_digits-number.ensures.1 c.loop-i-test.true c.smaller-cap.ensures c.shift.auto.g
-          c.shift.ensures c.requires.1 c.loop-i.invariant.1 c.child.ensures c.count_class.ensures,
-    )
+    let digits = take c.zero_digits-number.result c.zero_digits-number.new.zeros in
+    child_done P digits c.loop-zero.zero-index c.zero_digits-number.ensures.1 c.loop-zero-test.true c.min-cap.ensures c.shift.auto.g
+    c.shift.ensures c.requires.1 c.loop-zero.invariant c.child.ensures c.count_class.ensures
 
 pub count_digits-returns : goal.count_digits-returns
 count_digits-returns t c =
     let left : c.args.node.left ≡ suc (c.args.node.left - 1) = omega (arith, c.requires.0.deep) in
-    let e : c.loop-i.i ≡ c.zero_digits-number.result = omega (arith, c.loop-i.invariant.0, c.loop-i-test.false) in
-    let done = rw (e, c.zero_digits-number.ensures.1) at c.loop-i.invariant.1 in
+    let digits = take c.zero_digits-number.result c.zero_digits-number.new.zeros in
+    let all = take_all c.loop-zero.zero-index digits c.loop-zero-test.false in
+    let done = rw (all, c.zero_digits-number.ensures.1) at c.loop-zero.invariant in
     rw left (digits-all c.args.h.now c.args.over.p (c.args.node.left - 1) done)

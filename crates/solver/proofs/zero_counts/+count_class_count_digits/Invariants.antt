@@ -1,5 +1,5 @@
 -- The levels left fall: by one from `count_digits` to `count_class`, and not from `count_class` to `count_digits`.
-use Prim.Native.Nat.{◌+◌, ◌-◌, ◌*◌, ◌≤◌}
+use Prim.Native.Nat.{◌+◌, ◌-◌, ◌*◌}
 use lib.ListN.{take}
 use Rattle.theory.specs.Live.{sum_over}
 use Rattle.solver.proofs.Added.{Plus}
@@ -12,10 +12,6 @@ decreases-count_class l = 2 * l.node.left + 1
 abbrev pub decreases-count_digits : goal.decreases-count_digits
 decreases-count_digits l = 2 * l.node.left
 
-abbrev pub invariant-count_digits-loop-i : goal.invariant-count_digits-loop-i
-invariant-count_digits-loop-i l =
-    (l.i ≤ l.number)
-    × Plus (λ k. sum_over (below l.h l.over.p (l.node.left - 1) k) (take l.i l.zeros)) l.over.exponent l.initial.counts l.counts
-
-abbrev pub decreases-count_digits-loop-i : goal.decreases-count_digits-loop-i
-decreases-count_digits-loop-i l = l.number - l.i
+abbrev pub invariant-count_digits-loop-zero : goal.invariant-count_digits-loop-zero
+invariant-count_digits-loop-zero l =
+    Plus (λ k. sum_over (below l.h l.over.p (l.node.left - 1) k) (take l.zero-index l.zero-items)) l.over.exponent l.initial.counts l.counts

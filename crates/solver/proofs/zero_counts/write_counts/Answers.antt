@@ -27,7 +27,6 @@ scaled-next p n zeros j e = rw (e, add-one j)
 pub loop-j-init : goal.loop-j-init
 loop-j-init c =
     let a = c.args in (
-      omega arith,
       c.requires.0.power ∙ ap (λ (k : ℕ). a.p ^ k) (sym (sub-zero a.n)),
       written_again (first a.p a.n a.zeros.now a.counts.now (omega (arith, c.requires.2))),
     )
@@ -35,36 +34,29 @@ loop-j-init c =
 pub nonzero_div-rest : goal.nonzero_div-rest
 nonzero_div-rest c = prime_pos c.requires.0.prime
 
-pub bounds-zeros-j : goal.bounds-zeros-j
-bounds-zeros-j c = omega (arith, c.loop-j-test.true, c.requires.1)
-
 pub nonzero_div-counts : goal.nonzero_div-counts
 nonzero_div-counts c =
     let U = c.requires.0 in
     rw (next_power c.args.p c.args.n c.loop-j.j c.loop-j.rest (prime_pos U.prime)
-    c.loop-j-test.true c.loop-j.invariant.1) (pow_pos _ (prime_pos U.prime) _)
+    c.loop-j-test.true c.loop-j.invariant.0) (pow_pos _ (prime_pos U.prime) _)
 
 pub bounds-counts-j : goal.bounds-counts-j
 bounds-counts-j c =
-    omega (arith, c.loop-j-test.true, c.requires.2, c.loop-j.invariant.2.long, length-set c.args.counts.now 0 1)
+    omega (arith, c.loop-j-test.true, c.requires.2, c.loop-j.invariant.1.long, length-set c.args.counts.now 0 1)
 
 pub loop-j-preserved : goal.loop-j-preserved
 loop-j-preserved c =
     let j = c.loop-j.j in
     let e = next_power c.args.p c.args.n j c.loop-j.rest (prime_pos c.requires.0.prime) c.loop-j-test.true
-    c.loop-j.invariant.1 in (
-      omega arith,
+    c.loop-j.invariant.0 in (
       e,
-      written-up c.loop-j.invariant.2 (j + 1) _
+      written-up c.loop-j.invariant.1 (j + 1) _
           (omega (arith, c.loop-j-test.true, c.requires.2, length-set c.args.counts.now 0 1))
           (scaled-next c.args.p c.args.n c.args.zeros.now j e) (omega arith) refl,
     )
 
-pub shape_of-counts : goal.shape_of-counts
-shape_of-counts c = c.loop-j.invariant.2.long ∙ length-set c.args.counts.now 0 1
-
 pub returns : goal.returns
 returns c =
-    let e : c.loop-j.j + 1 ≡ suc c.args.n = omega (arith, c.loop-j.invariant.0, c.loop-j-test.false) in
+    let e : c.loop-j.j + 1 ≡ suc c.args.n = omega (arith, c.loop-j-test.false) in
     written_twice (first c.args.p c.args.n c.args.zeros.now c.args.counts.now (omega (arith, c.requires.2))) (omega arith)
-    (rw e at c.loop-j.invariant.2)
+    (rw e at c.loop-j.invariant.1)
