@@ -4,11 +4,12 @@
 ghost use Rattle.std.specs.Prelude.{◌≡◌};
 ghost use Rattle.solver.specs.Points.{tested_all_of, queries_after};
 
-use solver::{Query, TestedAll};
+use refusal::Refusal;
+use solver::Query;
 
 #[derive(Clone, Copy)]
 pub struct Answers {
-    pub tested: TestedAll,
+    pub tested: Result<(), Refusal>,
     pub queries: [Query; 8],
 }
 

@@ -1,11 +1,8 @@
 -- Adding and withdrawing: a system that holds a model, after each way of each call.
-use mathlib.Core.Path.{◌≡◌, refl, sym, ap, ap₂, ◌∙◌}
-use mathlib.Core.Bool.{Bool, true, false, not}
-use mathlib.Core.List.{List, [], ◌∷◌, ◌++◌, map}
-use Prim.Native.Nat.{ℕ, ◌+◌, ◌-◌, ◌^◌, ◌≤◌, ◌<◌, min}
-use native.Mathlib.Omega.{arith}
-use lib.IntN.{ℤ}
-use lib.ListN.{length, length-map, length-append, set}
+use Rattle.std.proofs.Common.{◌≡◌, Bool, true, false, not, List, [], ◌∷◌, ◌++◌, map, ℕ, ◌+◌, ◌-◌, ◌^◌, ◌≤◌, ◌<◌, min, ℤ, length}
+use Rattle.std.proofs.Common.{take, set, Option, Some, is_some, Result, Ok, Err, refl, sym, ap, ap₂, ◌∙◌, arith, length-append}
+use Rattle.std.specs.List.{position, remove}
+use Rattle.std.proofs.lemmas.List.{length-map}
 use Rattle.theory.specs.Polynomial.{roots}
 use Rattle.theory.specs.SignedList.{signed_list}
 use Rattle.theory.specs.inner.Cut.{both}
@@ -19,14 +16,13 @@ use Rattle.numbers.specs.inner.Usable.{Usable}
 use Rattle.systems.specs.declared.Common.{Common}
 use Rattle.systems.specs.declared.Held.{Held}
 use Rattle.systems.specs.declared.System.{System}
-use Rattle.systems.specs.declared.Changed.{Changed}
-use Rattle.systems.specs.declared.Outcome.TheVariants.{Done, Refused}
 use Rattle.systems.specs.Model.{Congruence, congruence, Model, is_held, without, solves_all, common}
 use Rattle.systems.specs.Calls.{add_verdict, after_add, withdraw_verdict, after_withdraw}
-use Rattle.systems.specs.State.{slots, blank, held_for, held_of, common_for, system_of, Holds, added_of, withdrawn_of}
-use Rattle.systems.specs.inner.Slots.{tag_index, removed_at, Polynomials}
-use Rattle.systems.proofs.HeldSlots.{slots_put}
-use Rattle.systems.proofs.Tags.{kept, index-held, index-free, removed-kept, without-length, polynomials_next, polynomials_without}
+use Rattle.systems.specs.State.{slots, blank, held_for, held_of, common_for, system_of, Holds, Changed, added_of, withdrawn_of}
+use Rattle.systems.specs.inner.Slots.{Polynomials}
+use Rattle.systems.proofs.HeldSlots.{slots_front, slots_put, slots_cleared}
+use Rattle.systems.proofs.Tags.{kept, has_tag, position-held, Sought, sought, without-length, without-most, polynomials_next}
+use Rattle.systems.proofs.Tags.{polynomials_without}
 use Rattle.systems.proofs.Commons.{solves_next, list-one, list-few}
 use Rattle.systems.proofs.Holding.{held-usable, held-polynomials, common-few}
 
@@ -56,32 +52,30 @@ module _ {s : System} {M : Model} (H : Holds s M) (tag : ℕ) where
   unfolding system_of
   common-is = ap (λ (x : System). x.common) H.kept
 
+  -- the slots in use are those of the model
+  front-is : (count : ℕ) → count ≡ length held → take count s.held ≡ kept M.p M.n tag held
+  front-is count number =
+      ap (take count) held-is
+      ∙ slots_front 16 blank (kept M.p M.n tag held) count (number ∙ sym (length-map held (held_of M.p M.n)))
+
   -- what the search for the tag finds
-  module _ (count at : ℕ) (number : count ≡ length held)
-      (found : (L : List Held) → length L ≡ count → s.held ≡ slots 16 blank L → at ≡ tag_index tag L) where
-    at-is : at ≡ tag_index tag (kept M.p M.n tag held)
-    at-is = found (kept M.p M.n tag held) (length-map held (held_of M.p M.n) ∙ sym number) held-is
+  module _ (count : ℕ) (number : count ≡ length held) (at : Option ℕ)
+      (found : at ≡ position (has_tag M.p M.n tag) (take count s.held)) where
+    in-kept : position (has_tag M.p M.n tag) (kept M.p M.n tag held) ≡ at
+    in-kept = ap (position (has_tag M.p M.n tag)) (sym (front-is count number)) ∙ sym found
 
-    pub tag-held : at < count → is_held tag held ≡ true
-    tag-held h = go (is_held tag held) refl
-      where
-        go : (b : Bool) → is_held tag held ≡ b → is_held tag held ≡ true
-        go true e = e
-        go false e = absurd (omega (arith, at-is, index-free M.p M.n tag held e))
+    pub tag-held : is_some at ≡ is_held tag held
+    tag-held = ap is_some (sym in-kept) ∙ position-held M.p M.n tag held
 
-    pub tag_free : count ≤ at → is_held tag held ≡ false
-    tag_free h = go (is_held tag held) refl
-      where
-        go : (b : Bool) → is_held tag held ≡ b → is_held tag held ≡ false
-        go true e = absurd (omega (arith, at-is, index-held M.p M.n tag held e))
-        go false e = e
+    pub tag_sought : (i : ℕ) → at ≡ Some i → Sought M.p M.n tag held i
+    tag_sought i e = sought M.p M.n tag held i (in-kept ∙ e)
 
   -- Adding
 
   module _ (f : List ℤ) where
     -- a refusal gives the system back
     pub add-refused : (r : Refusal) → add_verdict M tag f ≡ refuses r
-        → ◌≡◌ {A = Changed} (record { system = s; outcome = Refused r }) (added_of M tag f)
+        → ◌≡◌ {A = Changed} (record { system = s; outcome = Err r }) (added_of M tag f)
     unfolding added_of after_add
     add-refused r e = rw (e, H.kept)
 
@@ -108,9 +102,9 @@ module _ {s : System} {M : Model} (H : Holds s M) (tag : ℕ) where
       add-passes e h = left-to-tag ∙ rw (rule15_passes (is_held tag held) e, rule16_passes (length held) (omega (arith, H.few)))
 
       -- the list of the polynomial, and the common list cut by it, as the inner functions give them for the system's own p and n
-      pub solved-is : {polynomial : Held}
-          → (Usable s.p s.n (s.p ^ s.n) → 0 < length f → length f ≤ 65 → polynomial ≡ held_of s.p s.n (congruence tag f))
-          → polynomial ≡ held_of M.p M.n (congruence tag f)
+      pub solved-is : {polynomial : Result Held Refusal}
+          → (Usable s.p s.n (s.p ^ s.n) → 0 < length f → length f ≤ 65 → polynomial ≡ Ok (held_of s.p s.n (congruence tag f)))
+          → polynomial ≡ Ok (held_of M.p M.n (congruence tag f))
       solved-is w = (rw (p_is, n_is) at w) (held-usable H) (omega (arith, some)) few
 
       pub cut-is : {polynomial : Held} {cut : Common} → length held < 16 → polynomial ≡ held_of M.p M.n (congruence tag f)
@@ -141,7 +135,7 @@ module _ {s : System} {M : Model} (H : Holds s M) (tag : ℕ) where
           → cut ≡ common_for (both (solves_all M.p M.n held) (roots f M.p M.n)) M.p M.n
           → ◌≡◌ {A = Changed} (record {
             system = record { p = s.p; n = s.n; count = count + 1; held = set s.held count polynomial; common = cut };
-            outcome = Done;
+            outcome = Ok tt;
           }) (added_of M tag f)
       unfolding added_of after_add system_of
       add_done {count} {polynomial} number free room polynomial-is cut-is =
@@ -159,46 +153,46 @@ module _ {s : System} {M : Model} (H : Holds s M) (tag : ℕ) where
           let common-next = cut-is ∙ ap (λ (R : ℕ → Bool). common_for R p n) (sym (solves_next p n held c)) in
           rw (add-passes free (λ e. room (number ∙ e))) (λ i. record {
             system = record { p = p_is i; n = n_is i; count = count_next i; held = held_next i; common = common-next i };
-            outcome = Done;
+            outcome = Ok tt;
           })
 
   -- Withdrawing
 
-  pub withdraw-refused : is_held tag held ≡ false → ◌≡◌ {A = Changed} (record { system = s; outcome = Refused Tag }) (withdrawn_of M tag)
+  pub withdraw-refused : is_held tag held ≡ false → ◌≡◌ {A = Changed} (record { system = s; outcome = Err Tag }) (withdrawn_of M tag)
   unfolding withdrawn_of after_withdraw withdraw_verdict
   withdraw-refused e = rw (rule15_refuses (not (is_held tag held)) (ap not e), H.kept)
 
-  module _ (count at : ℕ) (number : count ≡ length held)
-      (found : (L : List Held) → length L ≡ count → s.held ≡ slots 16 blank L → at ≡ tag_index tag L) where
-    pub left_is : {left : List Held}
-        → ((L : List Held) → length L ≡ count → s.held ≡ slots 16 blank L → left ≡ slots 16 blank (removed_at at L))
-        → left ≡ slots 16 blank (kept M.p M.n tag (without tag held))
-    left_is w =
-        let L = kept M.p M.n tag held in
-        w L (length-map held (held_of M.p M.n) ∙ sym number) held-is
-        ∙ ap (λ (k : ℕ). slots 16 blank (removed_at k L)) (at-is count at number found)
-        ∙ ap (slots 16 blank) (removed-kept M.p M.n tag held)
+  module _ (at : ℕ) (found : Sought M.p M.n tag held at) where
+    -- the slots without it
+    pub left_is : (x : Held) → set (remove s.held at ++ (x ∷ [])) 15 blank ≡ slots 16 blank (kept M.p M.n tag (without tag held))
+    left_is x =
+        let long : length (kept M.p M.n tag held) ≡ length held = length-map held (held_of M.p M.n) in
+        ap (λ (l : List Held). set (remove l at ++ (x ∷ [])) 15 blank) held-is
+        ∙ slots_cleared 16 blank (kept M.p M.n tag held) at 15 x (omega (arith, found.inside)) (omega (arith, H.few)) refl
+        ∙ ap (slots 16 blank) found.removed
 
-    pub cut-all-is : {left : List Held} {cut : Common} → is_held tag held ≡ true
+    pub cut-all-is : (count : ℕ) {left : List Held} {cut : Common} → count ≡ length held
         → left ≡ slots 16 blank (kept M.p M.n tag (without tag held))
-        → ((C : List Congruence) → Usable s.p s.n (s.p ^ s.n) → Polynomials C → length C ≡ count - 1
-        → left ≡ slots 16 blank (map (held_of s.p s.n) C) → cut ≡ common_for (solves_all s.p s.n C) s.p s.n)
+        → ((C : List Congruence) → Usable s.p s.n (s.p ^ s.n) → Polynomials C → length C ≤ 16
+        → take (count - 1) left ≡ map (held_of s.p s.n) C → cut ≡ common_for (solves_all s.p s.n C) s.p s.n)
         → cut ≡ common_for (solves_all M.p M.n (without tag held)) M.p M.n
-    cut-all-is e left_is w =
+    cut-all-is count number left-is w =
         (rw (p_is, n_is) at w) (without tag held) (held-usable H) (polynomials_without tag held (held-polynomials H))
-        (omega (arith, without-length tag held e, number)) left_is
+        (omega (arith, H.few, without-most tag held))
+        (ap (take (count - 1)) left-is ∙ slots_front 16 blank (kept M.p M.n tag (without tag held)) (count - 1)
+        (omega (arith, without-length tag held found.is_there, length-map (without tag held) (held_of M.p M.n))))
 
   pub withdraw-done : {count : ℕ} {left : List Held} {cut : Common} → count ≡ length held → is_held tag held ≡ true
       → left ≡ slots 16 blank (kept M.p M.n tag (without tag held))
       → cut ≡ common_for (solves_all M.p M.n (without tag held)) M.p M.n
       → ◌≡◌ {A = Changed} (record {
         system = record { p = s.p; n = s.n; count = count - 1; held = left; common = cut };
-        outcome = Done;
+        outcome = Ok tt;
       }) (withdrawn_of M tag)
   unfolding withdrawn_of after_withdraw withdraw_verdict system_of
   withdraw-done {count} number e left_is cut-is =
       let count_next : count - 1 ≡ length (without tag held) = omega (arith, without-length tag held e) in
       rw (rule15_passes (not (is_held tag held)) (ap not e)) (λ i. record {
         system = record { p = p_is i; n = n_is i; count = count_next i; held = left_is i; common = cut-is i };
-        outcome = Done;
+        outcome = Ok tt;
       })

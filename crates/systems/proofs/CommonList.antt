@@ -15,11 +15,11 @@ use Rattle.theory.proofs.Numbers.Prime.{prime_pos}
 use Rattle.theory.proofs.Signed.Entries.{signed_total}
 use Rattle.theory.proofs.Signed.Demand.{signed-demand}
 use Rattle.theory.proofs.Signed.Cut.{listed-from}
-use Rattle.numbers.specs.declared.Modulus.TheVariants.{Accepted}
+use Rattle.std.specs.Prelude.{Ok}
 use Rattle.classes.specs.Checked.{checked_of}
 use Rattle.classes.proofs.ListAccepted.{list_accepted}
 use Rattle.systems.specs.declared.System.{System}
-use Rattle.systems.specs.Model.{Congruence, Model, model, solves_all, common, common_count}
+use Rattle.systems.specs.Model.{Congruence, Model, solves_all, common, common_count}
 use Rattle.systems.specs.State.{Holds}
 use Rattle.systems.proofs.Commons.{none_list, none-count, solves_one}
 use Rattle.systems.proofs.Holding.{held-usable}
@@ -39,7 +39,7 @@ module _ {s : System} {M : Model} (H : Holds s M) where
   common-total = signed_total (solves_all M.p M.n M.held) M.p M.n (prime_pos (held-usable H).prime)
 
   -- next, map and the writer take the list
-  pub common-accepted : checked_of M.p M.n (residues_of (common M)) (levels_of (common M)) ≡ Accepted (M.p ^ M.n)
+  pub common-accepted : checked_of M.p M.n (residues_of (common M)) (levels_of (common M)) ≡ Ok (M.p ^ M.n)
   unfolding common
   common-accepted = list_accepted (solves_all M.p M.n M.held) M.p M.n (M.p ^ M.n) (held-usable H)
 

@@ -5,8 +5,7 @@ use mathlib.Core.List.{List, [], ◌++◌, map}
 use Prim.Native.Nat.{ℕ, ◌+◌, ◌^◌, ◌≤◌, ◌<◌, min}
 use native.Mathlib.Omega.{arith}
 use lib.IntN.{ℤ, pos}
-use lib.ListN.{length, length-map, get_or, take, drop, replicate}
-use lib.Seq.{take_at, length-take-le}
+use lib.ListN.{length, length-map, length-take, get_or, take, drop, replicate}
 use Rattle.theory.specs.Polynomial.{roots}
 use Rattle.theory.specs.ClassList.{member_total}
 use Rattle.theory.specs.Shortest.{count}
@@ -22,16 +21,16 @@ use Rattle.numbers.proofs.Totals.{total_is}
 use Rattle.systems.specs.declared.Common.{Common}
 use Rattle.systems.specs.declared.Held.{Held}
 use Rattle.systems.specs.Model.{Congruence, congruence, solves_all}
-use Rattle.systems.specs.State.{slots, blank, held_for, held_of, common_for}
+use Rattle.systems.specs.State.{slots, held_for, held_of, common_for}
 use Rattle.systems.specs.inner.Slots.{Polynomials}
 use Rattle.systems.specs.inner.Cutting.{ListOf, Written}
-use Rattle.systems.proofs.HeldSlots.{any_default, slots_length, slots-entry}
+use Rattle.systems.proofs.HeldSlots.{slots_front}
 use Rattle.systems.proofs.Commons.{solves_next, list-one, list-few}
 
 -- the first slots of a list are the list
 front : {A : Type 0} (f : SignedClass → A) (L : List SignedClass) (m : ℕ) (d : A) (k : ℕ) → k ≡ length L
     → take k (slots m d (map f L)) ≡ map f L
-front f L m d k e = take_at (map f L) (drop (length (map f L)) (replicate m d)) k (length-map L f ∙ sym e)
+front f L m d k e = slots_front m d (map f L) k (e ∙ sym (length-map L f))
 
 module _ (S : ℕ → Bool) (p n m k : ℕ) (residues : List ℤ) (levels : List ℕ) (number : k ≡ length (signed_list S p n))
     (residues_are : residues ≡ slots m (pos 0) (residues_of (signed_list S p n)))
@@ -79,54 +78,50 @@ cut_common S {p} {n} {k} {roots} {residues} {levels} U w total =
 
 -- Everything cut by each held polynomial in turn
 
--- the slots of held polynomials, of which there are so many
-pub record HeldIn (p n count : ℕ) (held : List Held) (C : List Congruence) : Type 0 where
+-- the slots of at most 16 held polynomials
+pub record HeldIn (p n : ℕ) (held : List Held) (C : List Congruence) : Type 0 where
   pub usable : Usable p n (p ^ n)
   pub polynomials : Polynomials C
-  pub long : length C ≡ count
-  pub few : count ≤ 16
-  pub held_are : held ≡ slots 16 blank (map (held_of p n) C)
+  pub few : length C ≤ 16
+  pub held_are : held ≡ map (held_of p n) C
 
-module _ {p n count : ℕ} {held : List Held} {C : List Congruence} (G : HeldIn p n count held C) where
+module _ {p n : ℕ} {held : List Held} {C : List Congruence} (G : HeldIn p n held C) where
   abbrev none : Congruence
   none = congruence 0 []
 
   -- a slot in use
-  pub slot_is : (i : ℕ) (d : Held) → i < count → get_or held i d ≡ held_of p n (get_or C i none)
-  slot_is i d h =
-      let L = map (held_of p n) C in
-      let l : length L ≡ count = length-map C (held_of p n) ∙ G.long in
-      any_default held i d blank (omega (arith, ap length G.held_are, slots_length 16 blank L (omega (arith, G.few)), G.few))
-      ∙ ap (λ (x : List Held). get_or x i blank) G.held_are
-      ∙ slots-entry 16 blank L i
-      ∙ get_d_map (held_of p n) C i none blank (omega (arith, G.long))
+  pub long : length held ≡ length C
+  long = ap length G.held_are ∙ length-map C (held_of p n)
+
+  pub slot_is : (i : ℕ) (d : Held) → i < length held → get_or held i d ≡ held_of p n (get_or C i none)
+  slot_is i d h = ap (λ (x : List Held). get_or x i d) G.held_are ∙ get_d_map (held_of p n) C i none d (omega (arith, long))
 
   front-polynomials : (i : ℕ) → Polynomials (take i C)
   front-polynomials i =
       record { some = λ c u. G.polynomials.some c (in_take C i c u); few = λ c u. G.polynomials.few c (in_take C i c u) }
 
-  front-few : (i : ℕ) → i ≤ count → length (take i C) ≤ 16
-  front-few i h = omega (arith, length-take-le i C (omega (arith, G.long)), G.few)
+  front-few : (i : ℕ) → length (take i C) ≤ 16
+  front-few i = omega (arith, length-take i C, G.few)
 
   abbrev pub common_to : ℕ → Common
   common_to i = common_for (solves_all p n (take i C)) p n
 
-  list-to : (i : ℕ) → i ≤ count → length (signed_list (solves_all p n (take i C)) p n) ≤ 1024
-  list-to i h = list-few p n G.usable (take i C) (front-polynomials i) (front-few i h)
+  list-to : (i : ℕ) → length (signed_list (solves_all p n (take i C)) p n) ≤ 1024
+  list-to i = list-few p n G.usable (take i C) (front-polynomials i) (front-few i)
 
   -- one polynomial more
-  pub cut-next : {i : ℕ} {common r : Common} {h : Held} → i < count → common ≡ common_to i → h ≡ held_of p n (get_or C i none)
+  pub cut-next : {i : ℕ} {common r : Common} {h : Held} → i < length held → common ≡ common_to i → h ≡ held_of p n (get_or C i none)
       → ((S T : ℕ → Bool) (tag : ℕ) → Usable p n (p ^ n) → common ≡ common_for S p n → h ≡ held_for tag T p n
       → length (signed_list S p n) ≤ 1024 → length (signed_list T p n) ≤ 64 → length (signed_list (both S T) p n) ≤ 1024
       → r ≡ common_for (both S T) p n)
       → r ≡ common_to (i + 1)
   cut-next {i} u common-is h-is cut =
       let c = get_or C i none in
-      let l : i < length C = omega (arith, G.long) in
+      let l : i < length C = omega (arith, long) in
       let S = solves_all p n (take i C) in
       let T = roots c.coefficients p n in
       let more : solves_all p n (take (i + 1) C) ≡ both S T = ap (solves_all p n) (take_next C i none l) ∙ solves_next p n (take i C) c in
-      let fits : length (signed_list (both S T) p n) ≤ 1024 = rw more at (list-to (i + 1) (omega arith)) in
-      cut S T c.tag G.usable common-is h-is (list-to i (omega arith))
+      let fits : length (signed_list (both S T) p n) ≤ 1024 = rw more at (list-to (i + 1)) in
+      cut S T c.tag G.usable common-is h-is (list-to i)
       (list-one p n G.usable c (G.polynomials.few c (in_at C i none l))) fits
       ∙ ap (λ (R : ℕ → Bool). common_for R p n) (sym more)

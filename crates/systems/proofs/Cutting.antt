@@ -2,9 +2,9 @@
 use mathlib.Core.Path.{◌≡◌, refl, sym, ap, ap₂, ◌∙◌}
 use mathlib.Core.Logic.{◌⊎◌, inl, inr}
 use mathlib.Core.Bool.{Bool, true, false, ◌||◌}
-use mathlib.Core.List.{List, ◌++◌}
-use Prim.Native.Nat.{ℕ, suc, ◌+◌, ◌^◌, ◌≤◌, ◌<◌}
-use native.Mathlib.Nat.{add-zero}
+use mathlib.Core.List.{List, [], ◌∷◌, ◌++◌}
+use Prim.Native.Nat.{ℕ, suc, ◌+◌, ◌%◌, ◌^◌, ◌≤◌, ◌<◌}
+use native.Mathlib.Nat.{add-zero, mod-eq_of_lt}
 use native.Mathlib.Decide.{dec_lt}
 use native.Mathlib.Numerals.{add-one}
 use native.Mathlib.Omega.{arith}
@@ -14,10 +14,11 @@ use lib.IntN.{ℤ, pos}
 use lib.ListN.{length, length-map, get_or, take, drop, set, get_or-map}
 use lib.Seq.{take-length}
 use lib.Signed.{lt_z, le_z}
+use Rattle.std.specs.List.{list_any, zip}
 use Rattle.theory.specs.Lists.{In}
 use Rattle.theory.specs.SignedClass.{SignedClass, signed_class, signed_slot, residues_of, levels_of}
 use Rattle.theory.specs.SignedList.{signed_list}
-use Rattle.theory.specs.inner.Cut.{both, covered}
+use Rattle.theory.specs.inner.Cut.{both, covered_by, covered}
 use Rattle.theory.proofs.Tests.{and_left, and_right, or_cases, or_fails_left, or_fails_right}
 use Rattle.theory.proofs.Lists.Map.{in_map}
 use Rattle.theory.proofs.Lists.Index.{in_at}
@@ -30,7 +31,19 @@ use Rattle.theory.proofs.Signed.Covered.{listed_uncovered}
 use Rattle.theory.proofs.Signed.Cut.{first-listed, second-listed, listed-from}
 use Rattle.classes.specs.Rule7.{classes_of}
 use Rattle.classes.proofs.Entries.{classes_of_parts}
-use Rattle.systems.specs.inner.Cutting.{LevelsTo, first_is_next, covers, KeptIf, ListOf, Written}
+use Rattle.systems.specs.inner.Cutting.{covers_by, Powers, LevelsTo, first_is_next, covers, KeptIf, ListOf, Written}
+
+-- what is read off the table of powers
+pub by_table : {p n : ℕ} {table : List ℕ} → Powers p n table → (limit : ℕ) (z : ℤ) (residues : List ℤ) (levels : List ℕ)
+    → LevelsTo n levels → list_any (covers_by table limit z) (zip residues levels) ≡ covered p limit z (classes_of residues levels)
+unfolding covered covered_by classes_of
+by_table P limit z [] levels fits = refl
+by_table P limit z (a ∷ residues) [] fits = refl
+by_table {p} {n} {table} P limit z (a ∷ residues) (t ∷ levels) fits =
+    let low : t ≤ n = fits.at 0 (omega arith) in
+    let entry : get_or table (t % 32) 0 ≡ p ^ t =
+    ap (λ (k : ℕ). get_or table k 0) (mod-eq_of_lt (omega (arith, P.small))) ∙ P.at t low in
+    rw (entry, by_table P limit z residues levels (record { at = λ i h. fits.at (suc i) (omega arith) }))
 
 earlier_trans : (c d e : SignedClass) → SignedEarlier c d → SignedEarlier d e → SignedEarlier c e
 earlier_trans c d e h k =

@@ -1,12 +1,10 @@
 -- No two held polynomials have the same tag.
-use mathlib.Core.Path.{◌≡◌, refl, sym, ap, ◌∙◌}
-use mathlib.Core.Bool.{Bool, true, false, ◌||◌}
+use mathlib.Core.Path.{◌≡◌, refl, sym}
+use mathlib.Core.Bool.{Bool, true, false}
 use mathlib.Core.List.{List, [], ◌∷◌, ◌++◌, map}
 use Prim.Native.Nat.{ℕ}
 use borrow.Author.Tests.{eqb-false}
 use lib.Dec.{eqb}
-use lib.IntN.{ℤ}
-use lib.ListN.{length}
 use Rattle.theory.specs.Lists.{In, here, there}
 use Rattle.theory.proofs.Tests.{or_fails_left, or_fails_right}
 use Rattle.theory.proofs.Lists.Names.{in-nil, in-single}

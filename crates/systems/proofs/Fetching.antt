@@ -4,16 +4,16 @@ use mathlib.Core.List.{List, ◌++◌, map}
 use Prim.Native.Nat.{ℕ, ◌≤◌, ◌<◌, min}
 use native.Mathlib.Omega.{arith}
 use lib.IntN.{ℤ, pos}
-use lib.ListN.{length, length-map, take, drop, replicate}
-use lib.Seq.{take_at}
+use Rattle.std.specs.Prelude.{Ok, Err}
+use lib.ListN.{length, length-map, take, drop}
 use Rattle.theory.specs.SignedClass.{SignedClass, residues_of, levels_of}
 use Rattle.refusal.specs.declared.Refusal.TheVariants.{Lengths, TooFewSlots}
 use Rattle.refusal.proofs.Rules.{rule6_refuses, rule6_passes, rule11_refuses, rule11_passes}
 use Rattle.systems.specs.declared.System.{System}
-use Rattle.systems.specs.declared.Fetched.TheVariants.{Found, Refused}
 use Rattle.systems.specs.Model.{Model, common, common_count}
 use Rattle.systems.specs.Calls.{fetch_verdict, fetched_of, fetched_residues, fetched_levels}
 use Rattle.systems.specs.State.{slots, common_for, system_of, Holds, FetchedFrom}
+use Rattle.systems.proofs.HeldSlots.{slots_front}
 
 module _ {s : System} {M : Model} (H : Holds s M) where
   -- the fields of the common list
@@ -36,7 +36,7 @@ module _ {s : System} {M : Model} (H : Holds s M) where
   module _ (residues : List ℤ) (levels : List ℕ) where
     -- rule 6
     pub fetch-lengths : (n : ℕ) → n ≡ min (length residues) (length levels) → (length residues ≡ length levels → ⊥)
-        → FetchedFrom M residues levels (Refused (Lengths n)) residues levels
+        → FetchedFrom M residues levels (Err (Lengths n)) residues levels
     unfolding fetch_verdict fetched_of fetched_residues fetched_levels
     fetch-lengths n e h =
         let six = rule6_refuses (length residues) (length levels) h in
@@ -45,7 +45,7 @@ module _ {s : System} {M : Model} (H : Holds s M) where
     module _ (same : length residues ≡ length levels) where
       -- rule 11
       pub fetch-slots : length residues < s.common.classes
-          → FetchedFrom M residues levels (Refused (TooFewSlots s.common.classes)) residues levels
+          → FetchedFrom M residues levels (Err (TooFewSlots s.common.classes)) residues levels
       unfolding fetch_verdict fetched_of fetched_residues fetched_levels
       fetch-slots h =
           let six = rule6_passes (length residues) (length levels) same in
@@ -57,7 +57,7 @@ module _ {s : System} {M : Model} (H : Holds s M) where
       pub fetch-found : {residues' : List ℤ} {levels' : List ℕ} → s.common.classes ≤ length residues
           → residues' ≡ take s.common.classes s.common.residues ++ drop s.common.classes residues
           → levels' ≡ take s.common.classes s.common.levels ++ drop s.common.classes levels
-          → FetchedFrom M residues levels (Found s.common.classes s.common.roots) residues' levels'
+          → FetchedFrom M residues levels (Ok (record { classes = s.common.classes; roots = s.common.roots })) residues' levels'
       unfolding fetch_verdict fetched_of fetched_residues fetched_levels
       fetch-found h er el =
           let six = rule6_passes (length residues) (length levels) same in
@@ -77,4 +77,4 @@ module _ {s : System} {M : Model} (H : Holds s M) where
               let L = map f (common M) in
               let n : s.common.classes ≡ length L = classes-are ∙ sym (length-map (common M) f) in
               ap₂ (λ (x : List _) (j : ℕ). x ++ drop j lent)
-              (ap (take s.common.classes) e ∙ take_at L (drop (length L) (replicate m d)) s.common.classes (sym n)) n
+              (ap (take s.common.classes) e ∙ slots_front m d L s.common.classes n) n

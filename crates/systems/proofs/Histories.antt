@@ -3,11 +3,9 @@ use mathlib.Core.Path.{◌≡◌, refl, ap, ap₂}
 use mathlib.Core.List.{List, [], ◌∷◌}
 use Prim.Native.Nat.{ℕ}
 use Rattle.systems.specs.declared.System.{System}
-use Rattle.systems.specs.declared.Changed.{Changed}
-use Rattle.systems.specs.declared.Fetched.{Fetched}
 use Rattle.systems.specs.Model.{Model, model}
 use Rattle.systems.specs.Calls.{after_add, after_withdraw}
-use Rattle.systems.specs.State.{Holds, added_of, withdrawn_of}
+use Rattle.systems.specs.State.{Holds, Changed, added_of, withdrawn_of}
 use Rattle.systems.specs.History.{Call, fetch, Answer, changed, fetched, History, none, then_add, then_withdraw, then_fetch}
 use Rattle.systems.specs.History.{answer_of, answers_of, after_all, FromOpening, AsModel}
 use Rattle.systems.proofs.Kept.{opened_holds, add_holds, withdraw-holds}
@@ -38,5 +36,5 @@ history (then_fetch s t residues residues' levels levels' r calls answers a h) M
 pub from_opening : {p n : ℕ} {calls : List Call} {answers : List Answer} {s : System} → FromOpening p n calls answers s
     → AsModel p n calls answers s
 from_opening {p} {n} h =
-    let all = history h.row (model p n []) (opened_holds p n h.opened) in
+    let all = history h.row (model p n []) (opened_holds p n h.first h.opened) in
     record { answers_are = all.0; holds = all.1 }

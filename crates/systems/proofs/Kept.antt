@@ -1,30 +1,29 @@
 -- Opening makes a system that holds nothing, and a call on a system that holds a model leaves one that holds the model after the call.
-use mathlib.Core.Path.{◌≡◌, refl, sym, ◌∙◌}
+use mathlib.Core.Path.{◌≡◌, refl}
 use mathlib.Core.Logic.{◌⊎◌, inl, inr}
 use mathlib.Core.List.{List, [], ◌∷◌, ◌++◌}
-use Prim.Native.Nat.{ℕ, ◌+◌, ◌≤◌}
+use Prim.Native.Nat.{ℕ, ◌≤◌}
 use native.Mathlib.Omega.{arith}
 use borrow.Author.Tests.{leb-false}
 use lib.Dec.{leb}
 use lib.IntN.{ℤ}
+use Rattle.std.specs.Prelude.{Ok}
 use lib.ListN.{length, length-append}
 use Rattle.theory.specs.Lists.{In}
 use Rattle.theory.proofs.Lists.Names.{in-append, in-single, in-nil}
-use Rattle.refusal.specs.declared.Refusal.{Refusal}
 use Rattle.refusal.specs.declared.Refusal.TheVariants.{Full}
-use Rattle.refusal.specs.Rules.{Verdict, passes, refuses, tried, rule2, rule3, rule15, rule16}
+use Rattle.refusal.specs.Rules.{Verdict, passes, refuses, value_or, tried, rule2, rule3, rule15, rule16}
 use Rattle.refusal.proofs.Rules.{tried-first, rule_passes}
 use Rattle.systems.specs.declared.System.{System}
-use Rattle.systems.specs.declared.Outcome.TheVariants.{Done, Refused}
 use Rattle.systems.specs.Model.{Congruence, congruence, Model, model, is_held, without}
-use Rattle.systems.specs.Calls.{done_or, held_or, open_verdict, add_verdict, after_add, withdraw_verdict, after_withdraw}
-use Rattle.systems.specs.State.{system_of, Holds, opened_into, opened_of}
+use Rattle.systems.specs.Calls.{held_or, open_verdict, add_verdict, after_add, withdraw_verdict, after_withdraw}
+use Rattle.systems.specs.State.{system_of, Holds, opened_of}
 use Rattle.systems.proofs.Tags.{in_without, without-most}
 
--- only where no rule refuses is a call done
-pub done_passes : (v : Verdict) → done_or v ≡ Done → v ≡ passes
-done_passes passes e = refl
-done_passes (refuses r) e = let z : ◌≡◌ {A = ℕ} 0 1 = cc in absurd (omega arith)
+-- only where no rule refuses is there a value
+pub done_passes : {A : Type 0} (v : Verdict) (x y : A) → value_or v x ≡ Ok y → (v ≡ passes) × (y ≡ x)
+done_passes passes x y e = (refl, cc)
+done_passes (refuses r) x y e = cc
 
 -- what a system may hold: at most 16 polynomials, which rules 2 and 3 pass
 record Allowed (held : List Congruence) : Type 0 where
@@ -74,8 +73,8 @@ module _ {s : System} {M : Model} (H : Holds s M) where
   unfolding after_withdraw
   withdraw-holds tag = holds-again _ (either (withdraw_verdict M tag) _ (λ e. one_less tag))
 
-pub opened_holds : (p n : ℕ) → (opened_of p n).outcome ≡ Done → Holds (opened_of p n).system (model p n [])
-unfolding opened_of opened_into
-opened_holds p n e =
-    let v : open_verdict p n ≡ passes = done_passes (open_verdict p n) e in
-    record { accepted = v; few = omega arith; polynomials = λ c u. absurd (in-nil u); kept = rw v }
+pub opened_holds : (p n : ℕ) (s : System) → opened_of p n ≡ Ok s → Holds s (model p n [])
+unfolding opened_of
+opened_holds p n s e =
+    let v = done_passes (open_verdict p n) (system_of (model p n [])) s e in
+    record { accepted = v.0; few = omega arith; polynomials = λ c u. absurd (in-nil u); kept = v.1 }

@@ -1,18 +1,17 @@
 -- The residues that solve all held polynomials depend on which polynomials are held, and neither on their order nor on how often each is
 -- held.
 use mathlib.Core.Path.{◌≡◌, refl, sym, ap, fun_ext}
-use mathlib.Core.Bool.{Bool, true, ◌&&◌}
+use mathlib.Core.Bool.{Bool, true}
 use mathlib.Core.List.{List, [], ◌∷◌}
 use Prim.Native.Nat.{ℕ}
-use lib.IntN.{ℤ}
 use Rattle.theory.specs.Lists.{In, here, there, Permutation}
 use Rattle.theory.specs.Polynomial.{roots}
 use Rattle.theory.specs.Shortest.{count}
 use Rattle.theory.specs.SignedList.{signed_list}
 use Rattle.theory.proofs.Tests.{and_left, and_right, and_intro, same_test}
-use Rattle.theory.proofs.Lists.Names.{in-nil, in-cons, perm-sym}
+use Rattle.theory.proofs.Lists.Names.{in-nil, perm-sym}
 use Rattle.theory.proofs.Lists.Permutation.{perm_in}
-use Rattle.systems.specs.Model.{Congruence, Model, model, solves_all, common, common_count}
+use Rattle.systems.specs.Model.{Congruence, model, solves_all, common, common_count}
 
 -- A residue solves all of them exactly if it solves each
 

@@ -1,14 +1,9 @@
 -- The tags of a set of congruences, in the set and in the slots of a system: the one sought, and the set without it.
-use mathlib.Core.Path.{◌≡◌, refl, ap}
-use mathlib.Core.Logic.{◌⊎◌, inl, inr}
-use mathlib.Core.Bool.{Bool, true, false}
-use mathlib.Core.List.{List, [], ◌∷◌, ◌++◌, map}
-use Prim.Native.Nat.{ℕ, suc, ◌+◌, ◌≤◌, ◌<◌}
-use native.Mathlib.Numerals.{add-one}
-use native.Mathlib.Omega.{arith}
-use lib.Dec.{eqb}
-use lib.IntN.{ℤ}
-use lib.ListN.{length}
+use Rattle.std.proofs.Common.{◌≡◌, Bool, true, false, ◌==◌, eqb, List, [], ◌∷◌, ◌++◌, map, ℕ, suc, ◌+◌, ◌≤◌, ◌<◌, ℤ, length, Some}
+use Rattle.std.proofs.Common.{is_some, ◌⊎◌, inl, inr, refl, sym, ap, ◌∙◌, add-one, arith}
+use Rattle.std.specs.List.{position, position_or_len, remove}
+use Rattle.std.proofs.lemmas.List.{length-map}
+use borrow.Author.Tests.{lt-ltb, le-ltb}
 use Rattle.theory.specs.Lists.{In, here, there}
 use Rattle.theory.proofs.Lists.Names.{in-append, in-single}
 use Rattle.refusal.specs.declared.Refusal.TheVariants.{Tag}
@@ -18,7 +13,7 @@ use Rattle.systems.specs.declared.Held.{Held}
 use Rattle.systems.specs.Model.{Congruence, Model, is_held, without}
 use Rattle.systems.specs.Calls.{add_verdict}
 use Rattle.systems.specs.State.{held_for, held_of}
-use Rattle.systems.specs.inner.Slots.{tag_index, removed_at, Polynomials}
+use Rattle.systems.specs.inner.Slots.{Polynomials}
 
 -- In the set
 
@@ -61,37 +56,67 @@ module _ (p n tag : ℕ) where
   abbrev pub kept : List Congruence → List Held
   kept = map (held_of p n)
 
-  -- the index of the tag is that of a slot in use exactly if the tag is held
-  pub index-held : (C : List Congruence) → is_held tag C ≡ true → tag_index tag (kept C) < length C
-  unfolding is_held tag_index held_for
+  abbrev pub has_tag : Held → Bool
+  has_tag h = h.tag == tag
+
+  -- the first slot with the tag is in use exactly if the tag is held
+  index-held : (C : List Congruence) → is_held tag C ≡ true → position_or_len has_tag (kept C) < length C
+  unfolding is_held held_for
   index-held [] e = let z : ◌≡◌ {A = ℕ} 0 1 = cc in absurd (omega arith)
   index-held (c ∷ C) e = go (index-held C) (eqb c.tag tag) refl
     where
-      go : (is_held tag C ≡ true → tag_index tag (kept C) < length C) → (b : Bool) → eqb c.tag tag ≡ b
-          → tag_index tag (kept (c ∷ C)) < suc (length C)
-      go ih true q = rw (q, tag_index) (omega arith)
-      go ih false q = let e' : is_held tag C ≡ true = rw q at e in rw (q, tag_index) (omega (arith, ih e'))
+      go : (is_held tag C ≡ true → position_or_len has_tag (kept C) < length C) → (b : Bool) → eqb c.tag tag ≡ b
+          → position_or_len has_tag (kept (c ∷ C)) < suc (length C)
+      go ih true q = rw q (omega arith)
+      go ih false q = let e' : is_held tag C ≡ true = rw q at e in rw q (omega (arith, ih e'))
 
-  pub index-free : (C : List Congruence) → is_held tag C ≡ false → tag_index tag (kept C) ≡ length C
-  unfolding is_held tag_index held_for
+  index-free : (C : List Congruence) → is_held tag C ≡ false → position_or_len has_tag (kept C) ≡ length C
+  unfolding is_held held_for
   index-free [] e = refl
   index-free (c ∷ C) e = go (index-free C) (eqb c.tag tag) refl
     where
-      go : (is_held tag C ≡ false → tag_index tag (kept C) ≡ length C) → (b : Bool) → eqb c.tag tag ≡ b
-          → tag_index tag (kept (c ∷ C)) ≡ suc (length C)
+      go : (is_held tag C ≡ false → position_or_len has_tag (kept C) ≡ length C) → (b : Bool) → eqb c.tag tag ≡ b
+          → position_or_len has_tag (kept (c ∷ C)) ≡ suc (length C)
       go ih true q = let f : true ≡ false = rw q at e in let z : ◌≡◌ {A = ℕ} 0 1 = cc in absurd (omega arith)
-      go ih false q = let e' : is_held tag C ≡ false = rw q at e in rw (q, tag_index) (ap suc (ih e'))
+      go ih false q = let e' : is_held tag C ≡ false = rw q at e in rw q (omega (arith, ih e'))
 
   -- the slots without that one are those of the set without the congruence
-  pub removed-kept : (C : List Congruence) → removed_at (tag_index tag (kept C)) (kept C) ≡ kept (without tag C)
-  unfolding without tag_index removed_at held_for
+  removed-kept : (C : List Congruence) → remove (kept C) (position_or_len has_tag (kept C)) ≡ kept (without tag C)
+  unfolding without held_for
   removed-kept [] = refl
   removed-kept (c ∷ C) = go (removed-kept C) (eqb c.tag tag) refl
     where
-      go : removed_at (tag_index tag (kept C)) (kept C) ≡ kept (without tag C) → (b : Bool) → eqb c.tag tag ≡ b
-          → removed_at (tag_index tag (kept (c ∷ C))) (kept (c ∷ C)) ≡ kept (without tag (c ∷ C))
-      go ih true q = rw (q, tag_index, without)
-      go ih false q = rw (q, tag_index, without) (ap (λ (l : List Held). held_of p n c ∷ l) ih)
+      go : remove (kept C) (position_or_len has_tag (kept C)) ≡ kept (without tag C) → (b : Bool) → eqb c.tag tag ≡ b
+          → remove (kept (c ∷ C)) (position_or_len has_tag (kept (c ∷ C))) ≡ kept (without tag (c ∷ C))
+      go ih true q = rw (q, without)
+      go ih false q =
+          let next : 1 + position_or_len has_tag (kept C) ≡ suc (position_or_len has_tag (kept C)) = omega arith in
+          rw (q, without, next) (ap (λ (l : List Held). held_of p n c ∷ l) ih)
+
+  pub position-held : (C : List Congruence) → is_some (position has_tag (kept C)) ≡ is_held tag C
+  position-held C = go (is_held tag C) refl
+    where
+      at : ℕ
+      at = position_or_len has_tag (kept C)
+
+      go : (b : Bool) → is_held tag C ≡ b → is_some (position has_tag (kept C)) ≡ is_held tag C
+      go true q = rw (q, lt-ltb at (length (kept C)) (omega (arith, index-held C q, length-map C (held_of p n))))
+      go false q = rw (q, le-ltb at (length (kept C)) (omega (arith, index-free C q, length-map C (held_of p n))))
+
+  -- what the search for the tag finds
+  pub record Sought (C : List Congruence) (at : ℕ) : Type 0 where
+    pub is_there : is_held tag C ≡ true
+    pub inside : at < length C
+    pub removed : remove (kept C) at ≡ kept (without tag C)
+
+  pub sought : (C : List Congruence) (at : ℕ) → position has_tag (kept C) ≡ Some at → Sought C at
+  sought C at e =
+      let there : is_held tag C ≡ true = sym (position-held C) ∙ ap is_some e in
+      let k = position_or_len has_tag (kept C) in
+      let inside = index-held C there in
+      let found : Some k ≡ Some at = rw (lt-ltb k (length (kept C)) (omega (arith, inside, length-map C (held_of p n)))) at e in
+      let same : k ≡ at = cc in
+      record { is_there = there; inside = rw (← same) inside; removed = rw (← same) (removed-kept C) }
 
 -- Polynomials that rules 2 and 3 pass, one more and one less
 

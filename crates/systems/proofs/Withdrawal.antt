@@ -1,23 +1,23 @@
 -- "a withdrawal leaves the list as if that polynomial had never come": a row of calls with a polynomial that comes first and is withdrawn
 -- last leaves the set that the row without it leaves.
-use mathlib.Core.Path.{◌≡◌, refl, sym, ap, ap₂, ◌∙◌}
+use mathlib.Core.Path.{◌≡◌, refl, sym, ap, ◌∙◌}
 use mathlib.Core.Bool.{Bool, true, false, not, ◌||◌}
 use mathlib.Core.List.{List, [], ◌∷◌, ◌++◌, append-nil, append_assoc}
-use Prim.Native.Nat.{ℕ, suc, ◌+◌}
+use Prim.Native.Nat.{ℕ, ◌+◌}
 use native.Mathlib.Omega.{arith}
 use borrow.Author.Tests.{eq-eqb, ne_eqb, lt-leb, leb-false}
 use lib.Dec.{eqb, leb}
 use lib.IntN.{ℤ}
+use Rattle.std.specs.Prelude.{Err}
 use lib.ListN.{length, length-append}
 use Rattle.theory.specs.Lists.{In, here, there}
 use Rattle.theory.proofs.Tests.{or_fails_left, or_fails_right}
-use Rattle.refusal.specs.declared.Refusal.TheVariants.{Tag, Full}
+use Rattle.refusal.specs.declared.Refusal.TheVariants.{Full}
 use Rattle.refusal.specs.Rules.{Verdict, passes, refuses, tried, rule2, rule3, rule15, rule16}
-use Rattle.refusal.proofs.Rules.{tried-first, rule_passes, rule15_passes}
-use Rattle.systems.specs.declared.Outcome.TheVariants.{Refused}
+use Rattle.refusal.proofs.Rules.{rule15_passes}
 use Rattle.systems.specs.Model.{Congruence, congruence, Model, model, is_held, without}
 use Rattle.systems.specs.Calls.{held_or, add_verdict, after_add, withdraw_verdict, after_withdraw}
-use Rattle.systems.specs.History.{Call, add, withdraw, fetch, Answer, changed, after, answers_of, after_all}
+use Rattle.systems.specs.History.{Call, add, withdraw, fetch, changed, after, answers_of, after_all}
 use Rattle.systems.proofs.Tags.{passed_unheld}
 
 -- A set with a congruence c in it, and without it
@@ -153,7 +153,8 @@ module _ {tag : ℕ} {c : Congruence} {M N : Model} (w : Beside tag c M N) where
   beside-or passes C D b = record { its_tag = w.its_tag; same_p = w.same_p; same_n = w.same_n; between = b }
   beside-or (refuses r) C D b = record { its_tag = w.its_tag; same_p = w.same_p; same_n = w.same_n; between = w.between }
 
-  beside-add : (t : ℕ) (f : List ℤ) → (t ≡ tag → ⊥) → (add_verdict M t f ≡ refuses Full → ⊥) → Beside tag c (after_add M t f) (after_add N t f)
+  beside-add : (t : ℕ) (f : List ℤ) → (t ≡ tag → ⊥) → (add_verdict M t f ≡ refuses Full → ⊥)
+      → Beside tag c (after_add M t f) (after_add N t f)
   unfolding after_add
   beside-add t f other not_full =
       rw (same-verdict t f other not_full)
@@ -185,7 +186,7 @@ Apart tag (fetch residues levels) = Unit
 
 -- no call of the row is refused by rule 16
 abbrev pub NoneFull : Model → List Call → Type 0
-NoneFull M calls = In (changed (Refused Full)) (answers_of M calls) → ⊥
+NoneFull M calls = In (changed (Err Full)) (answers_of M calls) → ⊥
 
 beside_call : {tag : ℕ} {c : Congruence} {M N : Model} → Beside tag c M N → (call : Call) (calls : List Call) → Apart tag call
     → NoneFull M (call ∷ calls) → Beside tag c (after M call) (after N call)
@@ -199,7 +200,8 @@ beside_calls : {tag : ℕ} {c : Congruence} {M N : Model} → Beside tag c M N �
 unfolding after_all answers_of
 beside_calls w [] apart none = w
 beside_calls {M = M} {N = N} w (call ∷ calls) apart none =
-    beside_calls {M = after M call} {N = after N call} (beside_call w call calls (apart call (here refl)) none) calls (λ x u. apart x (there u)) (λ u. none (there u))
+    beside_calls {M = after M call} {N = after N call} (beside_call w call calls (apart call (here refl)) none) calls
+    (λ x u. apart x (there u)) (λ u. none (there u))
 
 -- Added first and withdrawn last
 

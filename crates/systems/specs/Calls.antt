@@ -1,18 +1,11 @@
 -- What each call answers, and what is held after it, by the model alone (02, 2.6).
-use Rattle.std.specs.Prelude.{not, List, [], ◌∷◌, ◌++◌, ℕ, ℤ, length}
+use Rattle.std.specs.Prelude.{not, List, [], ◌∷◌, ◌++◌, ℕ, ℤ, length, Result}
 use Rattle.theory.specs.SignedClass.{residues_of, levels_of}
-use Rattle.refusal.specs.Rules.{Verdict, passes, refuses, tried, filled, rule2, rule3, rule6, rule11, rule15, rule16}
+use Rattle.refusal.specs.declared.Refusal.{Refusal}
+use Rattle.refusal.specs.Rules.{Verdict, passes, refuses, tried, value_or, filled, rule2, rule3, rule6, rule11, rule15, rule16}
 use Rattle.numbers.specs.Modulus.{modulus_rules}
-use Rattle.systems.specs.declared.Outcome.{Outcome}
-use Rattle.systems.specs.declared.Outcome.TheVariants as outcome
-use Rattle.systems.specs.declared.Fetched.{Fetched}
-use Rattle.systems.specs.declared.Fetched.TheVariants as fetched
+use Rattle.solver.specs.declared.Listed.{Listed}
 use Rattle.systems.specs.Model.{Congruence, congruence, Model, model, is_held, without, common, common_count}
-
--- that the call is done, or the refusal
-abbrev pub done_or : Verdict → Outcome
-done_or passes = outcome.Done
-done_or (refuses r) = outcome.Refused r
 
 -- "A refused call leaves the held set as it was."
 abbrev pub held_or : Verdict → List Congruence → List Congruence → List Congruence
@@ -43,12 +36,8 @@ unfoldable pub fetch_verdict : Model → (a b : ℕ) → Verdict
 fetch_verdict M a b = tried (rule6 a b ∷ rule11 a (length (common M)) ∷ [])
 
 -- "whatever fills lists … returns k and the root count"
-abbrev pub found_or : Verdict → ℕ → ℕ → Fetched
-found_or passes k roots = fetched.Found k roots
-found_or (refuses r) k roots = fetched.Refused r
-
-unfoldable pub fetched_of : Model → (a b : ℕ) → Fetched
-fetched_of M a b = found_or (fetch_verdict M a b) (length (common M)) (common_count M)
+unfoldable pub fetched_of : Model → (a b : ℕ) → Result Listed Refusal
+fetched_of M a b = value_or (fetch_verdict M a b) (record { classes = length (common M); roots = common_count M })
 
 -- and what the lent lists hold after it
 unfoldable pub fetched_residues : Model → List ℤ → List ℕ → List ℤ

@@ -1,15 +1,14 @@
 -- Histories (02, 2.6): "From opening on, each call given the state as the one before left it, every answer is that of a plain set of tagged
 -- congruences".
-use Rattle.std.specs.Prelude.{◌≡◌, List, [], ◌∷◌, ℕ, ℤ, length}
+use Rattle.std.specs.Prelude.{◌≡◌, List, [], ◌∷◌, ℕ, ℤ, length, Result, Ok}
+use Rattle.refusal.specs.declared.Refusal.{Refusal}
+use Rattle.refusal.specs.Rules.{value_or}
+use Rattle.solver.specs.declared.Listed.{Listed}
 use Rattle.systems.specs.declared.System.{System}
-use Rattle.systems.specs.declared.Changed.{Changed}
-use Rattle.systems.specs.declared.Outcome.{Outcome}
-use Rattle.systems.specs.declared.Outcome.TheVariants.{Done}
-use Rattle.systems.specs.declared.Fetched.{Fetched}
 use Rattle.systems.specs.Model.{Model, model}
-use Rattle.systems.specs.Calls.{done_or, add_verdict, after_add, withdraw_verdict, after_withdraw}
+use Rattle.systems.specs.Calls.{add_verdict, after_add, withdraw_verdict, after_withdraw}
 use Rattle.systems.specs.Calls.{fetched_of, fetched_residues, fetched_levels}
-use Rattle.systems.specs.State.{Holds, opened_of, Added, Withdrawn, Fetches}
+use Rattle.systems.specs.State.{Holds, Changed, opened_of, Added, Withdrawn, Fetches}
 
 -- a call: fetching with the lists as lent
 pub data Call : Type 0 where
@@ -19,8 +18,8 @@ pub data Call : Type 0 where
 
 -- and what it gives: of fetching also the lists as left
 pub data Answer : Type 0 where
-  changed : Outcome → Answer
-  fetched : Fetched → List ℤ → List ℕ → Answer
+  changed : Result Unit Refusal → Answer
+  fetched : Result Listed Refusal → List ℤ → List ℕ → Answer
 
 -- a row of calls by the contracts, from one system to another
 pub data History : System → List Call → List Answer → System → Type 0 where
@@ -29,15 +28,15 @@ pub data History : System → List Call → List Answer → System → Type 0 wh
       → History r.system calls answers t → History s (add tag f ∷ calls) (changed r.outcome ∷ answers) t
   then_withdraw : (s t : System) (tag : ℕ) (r : Changed) (calls : List Call) (answers : List Answer) → Withdrawn s tag r
       → History r.system calls answers t → History s (withdraw tag ∷ calls) (changed r.outcome ∷ answers) t
-  then_fetch : (s t : System) (residues residues' : List ℤ) (levels levels' : List ℕ) (r : Fetched) (calls : List Call)
-      (answers : List Answer) → Fetches s residues levels r residues' levels' → History s calls answers t
+  then_fetch : (s t : System) (residues residues' : List ℤ) (levels levels' : List ℕ) (r : Result Listed Refusal)
+      (calls : List Call) (answers : List Answer) → Fetches s residues levels r residues' levels' → History s calls answers t
       → History s (fetch residues levels ∷ calls) (fetched r residues' levels' ∷ answers) t
 
 -- The model's answer to a call, and what it holds after it
 
 abbrev pub answer_of : Model → Call → Answer
-answer_of M (add tag f) = changed (done_or (add_verdict M tag f))
-answer_of M (withdraw tag) = changed (done_or (withdraw_verdict M tag))
+answer_of M (add tag f) = changed (value_or (add_verdict M tag f) tt)
+answer_of M (withdraw tag) = changed (value_or (withdraw_verdict M tag) tt)
 answer_of M (fetch residues levels) =
     fetched (fetched_of M (length residues) (length levels)) (fetched_residues M residues levels) (fetched_levels M residues levels)
 
@@ -59,8 +58,9 @@ after_all M (call ∷ calls) = after_all (after M call) calls
 
 -- "From opening on, each call given the state as the one before left it": the row begins with the system that an accepted opening gives
 pub record FromOpening (p n : ℕ) (calls : List Call) (answers : List Answer) (s : System) : Type 0 where
-  pub opened : (opened_of p n).outcome ≡ Done
-  pub row : History (opened_of p n).system calls answers s
+  pub first : System
+  pub opened : opened_of p n ≡ Ok first
+  pub row : History first calls answers s
 
 -- "every answer is that of a plain set of tagged congruences", and the last state is one to go on with
 pub record AsModel (p n : ℕ) (calls : List Call) (answers : List Answer) (s : System) : Type 0 where

@@ -1,64 +1,49 @@
 // Two class lists cut: the classes of the first that lie in one of the second, and those of the second that lie in a larger one of the
 // first, rising. They are the list of the residues in both.
 ghost use Rattle.std.specs.Prelude.{◌≡◌, Bool, ℕ, ◌+◌, ◌^◌, ◌≤◌, ◌<◌, length};
-ghost use Rattle.theory.specs.SignedClass.{signed_class, signed_slot};
+ghost use Rattle.std.specs.List.{list_any, zip};
+ghost use Rattle.theory.specs.SignedClass.{signed_slot};
 ghost use Rattle.theory.specs.SignedList.{signed_list};
-ghost use Rattle.theory.specs.inner.Cut.{both, covered_by, covered as covered_of};
+ghost use Rattle.theory.specs.inner.Cut.{both};
 ghost use Rattle.classes.specs.Rule7.{classes_of};
-ghost use Rattle.systems.specs.inner.Cutting.{Powers, LevelsTo, first_is_next, covers as covers_of, KeptIf, ListOf, Written};
+ghost use Rattle.systems.specs.inner.Cutting.{covers_by, Powers, LevelsTo, first_is_next, covers as covers_of, KeptIf, ListOf, Written};
 
-// The powers of p by their exponents, and 2^32 where it is more.
+// The powers of p by their exponents, where they fit.
 fn powers(p: u32) -> [u64; 32]
     ensures { (n : ℕ) → 2 ≤ p → p ^ n ≤ 4294967295 → Powers p n result }
 {
     let mut table = [1u64; 32];
-    let base = p as usize;
-    let mut i: usize = 1;
-    while i < 32 {
-        table[i] = numbers::smaller(table[i - 1] as usize * base, 4294967296) as u64;
-        i += 1;
+    for i in 1..32 {
+        table[i] = table[i - 1].saturating_mul(p as u64);
     }
     table
 }
 
 // Whether z is a member of the class a/t, and t is below the limit.
 fn covers(powers: &[u64; 32], a: i32, t: u8, z: i32, limit: u32) -> bool
-    ensures { (p n : ℕ) → Powers p n powers.now → t ≤ n → result ≡ covered_by p limit z (signed_class a t) }
+    ensures { result ≡ covers_by powers.now limit z (record { 0 = a; 1 = t }) }
 {
-    if limit <= t as u32 {
-        return false;
-    }
     let q = powers[(t % 32) as usize];
-    numbers::reduce(z as i64, q) == numbers::reduce(a as i64, q)
+    (t as u32) < limit && numbers::reduce(z as i64, q) == numbers::reduce(a as i64, q)
 }
 
 // Whether z is a member of one of these classes whose level is below the limit.
 fn covered(powers: &[u64; 32], residues: &[i32], levels: &[u8], z: i32, limit: u32) -> bool
     requires { length residues.now ≡ length levels.now }
-    ensures { (p n : ℕ) → Powers p n powers.now → LevelsTo n levels.now
-        → result ≡ covered_of p limit z (classes_of residues.now levels.now) }
+    ensures { result ≡ list_any (covers_by powers.now limit z) (zip residues.now levels.now) }
 {
-    let mut i: usize = 0;
-    while i < residues.len() {
-        if covers(powers, residues[i], levels[i], z, limit) {
-            return true;
-        }
-        i += 1;
-    }
-    false
+    residues
+        .iter()
+        .zip(levels)
+        .any(|(a, t)| covers(powers, *a, *t, z, limit))
 }
 
 // Whether the next of two rising lists, read from i and from j on, is one of the first.
+#[tactic(auto, unfolding(crate::specs::inner::Cutting::first_is_next))]
 fn first_is_next(a: &[i32], b: &[i32], i: usize, j: usize) -> bool
     ensures { result ≡ first_is_next a.now b.now i j }
 {
-    if a.len() <= i {
-        return false;
-    }
-    if b.len() <= j {
-        return true;
-    }
-    a[i] <= b[j]
+    i < a.len() && (b.len() <= j || a[i] <= b[j])
 }
 
 // Puts entry i of the list a, t after the first k classes written, where it lies in a class of the list b, s whose level is below its own
@@ -84,10 +69,7 @@ fn keep_covered(
         k result residues.old residues.new levels.old levels.new }
 {
     let inside = covered(powers, b, s, a[i], t[i] as u32 + more);
-    if !inside {
-        return k;
-    }
-    if residues.len() <= k {
+    if !inside || residues.len() <= k {
         return k;
     }
     residues[k] = a[i];

@@ -1,6 +1,8 @@
 -- Two lists cut: the lists of two sets of residues, and that of the residues in both.
-use Rattle.std.specs.Prelude.{◌≡◌, Bool, true, false, ◌&&◌, ◌||◌, List, ◌++◌, ℕ, ◌+◌, ◌^◌, ◌≤◌, ◌<◌, leb, ltb, ℤ, pos, length, get_or, set, drop}
+use Rattle.std.specs.Prelude.{◌≡◌, Bool, true, false, ◌&&◌, ◌||◌, List, ◌++◌, ℕ, ◌+◌, ◌^◌, ◌≤◌, ◌<◌, ◌%◌, eqb, leb, ltb, ℤ, pos}
+use Rattle.std.specs.Prelude.{length, get_or, set, drop}
 use Rattle.std.specs.Int.Signed.{le_z}
+use Rattle.theory.specs.Polynomial.{reduce}
 use Rattle.theory.specs.SignedClass.{SignedClass, residues_of, levels_of}
 use Rattle.theory.specs.SignedList.{signed_list}
 use Rattle.theory.specs.inner.Cut.{covered}
@@ -9,6 +11,12 @@ use Rattle.theory.specs.inner.Cut.{covered}
 pub record Powers (p n : ℕ) (table : List ℕ) : Type 0 where
   pub small : n < 32
   pub at : (t : ℕ) → t ≤ n → get_or table t 0 ≡ p ^ t
+
+-- a number is congruent to the residue of a class modulo the table's entry for its level, which is below the limit
+abbrev pub covers_by : List ℕ → ℕ → ℤ → ℤ × ℕ → Bool
+covers_by table limit z (a, t) =
+    let q = get_or table (t % 32) 0 in
+    ltb t limit && eqb (reduce q z) (reduce q a)
 
 -- levels up to n
 pub record LevelsTo (n : ℕ) (levels : List ℕ) : Type 0 where

@@ -1,74 +1,47 @@
 -- `systems::cut::keep_covered` meets its contract.
-use mathlib.Core.Path.{◌≡◌, refl, sym, ap, ◌∙◌}
-use Prim.Native.Nat.{ℕ, ◌+◌}
-use native.Mathlib.Omega.{arith}
-use borrow.Author.Rules.{rules}
-use lib.IntN.{ℤ, pos}
-use lib.ListN.{get_or, set}
-use mir.Syntax.{w32}
-use mir.Val.{to_z, of_z}
-use Rattle.theory.specs.SignedClass.{SignedClass, signed_class, signed_slot}
-use Rattle.theory.specs.inner.Cut.{covered}
+use Rattle.std.proofs.Common.{◌≡◌, List, ℕ, ◌+◌, ◌≤◌, ◌<◌, ℤ, pos, w32, to_z, of_z, length, get_or, Bool, false, true, ◌⊎◌, inl}
+use Rattle.std.proofs.Common.{inr, refl, sym, ap, ◌∙◌, arith, rules}
+use Rattle.std.specs.List.{list_any, zip}
+use Rattle.theory.specs.SignedClass.{SignedClass, signed_slot}
 use Rattle.theory.proofs.Tests.{contradiction}
 use Rattle.classes.specs.Rule7.{classes_of}
 use Rattle.classes.proofs.Entries.{classes_slot}
-use Rattle.systems.specs.inner.Cutting.{Powers, LevelsTo, covers}
-use Rattle.systems.proofs.cut.keep_covered.Lts as lts
-use Rattle.systems.proofs.cut.keep_covered.Reads as reads
-use Rattle.systems.proofs.cut.keep_covered.Tie as tie
+use Rattle.systems.specs.inner.Cutting.{covers_by, Powers, LevelsTo, covers, KeptIf}
+use Rattle.systems.proofs.Cutting.{by_table}
 use Rattle.systems.proofs.cut.keep_covered.Goals as goal
 
 -- what the call says of entry i
-module _ (c : lts.After-covered tie.the-claims reads.Pre reads.Post tie.handed_clauses) where
-  abbrev start : lts.Start tie.the-claims reads.Pre reads.Post tie.handed_clauses
-  start = c.before.before.before.before.before.before
+told : {p n : ℕ} {table : List ℕ} → Powers p n table → (a : List ℤ) (t : List ℕ) (i more : ℕ) (b : List ℤ) (s : List ℕ) → LevelsTo n s
+    → i < length a → length a ≡ length t
+    → list_any (covers_by table (get_or t i 0 + more) (get_or a i (pos 0))) (zip b s)
+    ≡ covers p more (classes_of b s) (signed_slot (classes_of a t) i)
+told {p} P a t i more b s fits h same =
+    by_table P (get_or t i 0 + more) (get_or a i (pos 0)) b s fits
+    ∙ ap (covers p more (classes_of b s)) (sym (classes_slot a t i h (omega arith)))
 
-  abbrev z : ℤ
-  z = get_or start.args.a.now start.args.i (pos 0)
+-- a class that is not kept, or for which there is no slot
+unwritten : {kept inside : Bool} {c : SignedClass} {k : ℕ} {residues : List ℤ} {levels : List ℕ} → inside ≡ kept
+    → (inside ≡ false) ⊎ ((inside ≡ true) × (length residues ≤ k)) → KeptIf kept c k k residues residues levels levels
+unwritten said w = record { put = λ e h. absurd (no (said ∙ e) h w); left = λ e. (refl, refl, refl) }
+  where
+    no : {inside : Bool} {k n : ℕ} → inside ≡ true → k < n → (inside ≡ false) ⊎ ((inside ≡ true) × (n ≤ k)) → ⊥
+    no e h (inl q) = contradiction e q
+    no e h (inr (_, l)) = omega arith
 
-  abbrev entry : SignedClass
-  entry = signed_slot (classes_of start.args.a.now start.args.t.now) start.args.i
+pub returns-then-not-inside-clause-kept : goal.returns-then-not-inside-clause-kept
+returns-then-not-inside-clause-kept c p n table fits =
+    let x = c.args in
+    let same : to_z w32 (of_z w32 (get_or x.a.now x.i (pos 0))) ≡ get_or x.a.now x.i (pos 0) = search rules in
+    let said = rw same at c.covered-inside.ensures ∙ told table x.a.now x.t.now x.i x.more x.b.now x.s.now fits c.requires.0 c.requires.1 in
+    unwritten said c.then-not-inside.either
 
-  entry-is : entry ≡ signed_class z (get_or start.args.t.now start.args.i 0)
-  entry-is =
-      classes_slot start.args.a.now start.args.t.now start.args.i start.requires.0
-      (omega (arith, start.requires.0, start.requires.1))
-
-  told : (p n : ℕ) → Powers p n start.args.powers.now → LevelsTo n start.args.s.now
-      → c.covered-inside.result ≡ covers p start.args.more (classes_of start.args.b.now start.args.s.now) entry
-  told p n table fits =
-      let L = classes_of start.args.b.now start.args.s.now in
-      let same : to_z w32 (of_z w32 z) ≡ z = search rules in
-      c.covered-inside.ensures p n table fits
-      ∙ ap (λ (x : ℤ). covered p (get_or start.args.t.now start.args.i 0 + start.args.more) x L) same
-      ∙ ap (covers p start.args.more L) (sym entry-is)
-
-pub returns-then-not-inside : goal.returns-then-not-inside
-returns-then-not-inside c = record {
-  within = (start c.before.before).requires.5;
-  kept = (λ p n table fits. record {
-    put = λ e h. absurd (contradiction (told c.before.before p n table fits ∙ e) c.if-not-inside.true);
-    left = λ e. (refl, refl, refl);
-  });
-}
-
-pub returns-then-residues-k : goal.returns-then-residues-k
-returns-then-residues-k c = record {
-  within = (start c.before.before.before).requires.5;
-  kept = (λ p n table fits. record { put = λ e h. absurd (omega (arith, c.if-residues-k.true)); left = λ e. (refl, refl, refl) });
-}
-
-pub bounds-levels-k : goal.bounds-levels-k
-bounds-levels-k c = omega (arith, (start c.before.before.before.before.before).requires.4, c.if-residues-k.false)
-
-pub returns : goal.returns
-returns c =
-    let b = c.before.before.before.before.before in
-    let a = (start c.before.before.before.before.before).args in
-    let same : to_z w32 (of_z w32 (z c.before.before.before.before.before)) ≡ z b = search rules in record {
-      within = omega (arith, c.if-residues-k.false);
-      kept = (λ p n table fits. record {
-        put = λ e h. rw (entry-is c.before.before.before.before.before) (refl, ap (set a.residues.now a.k) same, refl);
-        left = λ e. absurd (contradiction c.if-not-inside.false (told c.before.before.before.before.before p n table fits ∙ e));
-      });
+pub returns-clause-kept : goal.returns-clause-kept
+returns-clause-kept c p n table fits =
+    let x = c.args in
+    let same : to_z w32 (of_z w32 (get_or x.a.now x.i (pos 0))) ≡ get_or x.a.now x.i (pos 0) = search rules in
+    let said = rw same at c.covered-inside.ensures ∙ told table x.a.now x.t.now x.i x.more x.b.now x.s.now fits c.requires.0 c.requires.1 in
+    let entry = classes_slot x.a.now x.t.now x.i c.requires.0 (omega arith) in
+    record {
+      put = λ e h. rw (entry, same) (refl, refl, refl);
+      left = λ e. absurd (contradiction c.if-not-inside.false (said ∙ e));
     }
