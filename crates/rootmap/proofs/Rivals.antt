@@ -1,4 +1,5 @@
 -- The map of a list that is a rival of a set S: its bits are S, and its count is the set's, whatever the spare bits.
+use Rattle.std.specs.Prelude.{Ok}
 use mathlib.Core.Path.{◌≡◌, ap, ◌∙◌}
 use mathlib.Core.Bool.{Bool}
 use mathlib.Core.List.{List}
@@ -12,12 +13,11 @@ use Rattle.theory.specs.Rival.{Rival}
 use Rattle.theory.specs.RootMap.{bit, map_length, root_map, ones}
 use Rattle.theory.specs.SignedClass.{naturals}
 use Rattle.theory.proofs.RootMap.{map_spare, ones_agree, rival-bit, rival-ones}
-use Rattle.refusal.specs.Rules.{Verdict}
+use Rattle.refusal.specs.Rules.{Verdict, value_or}
 use Rattle.numbers.proofs.Rules.{usable_leads}
 use Rattle.classes.specs.Rule7.{classes_of}
 use Rattle.classes.specs.inner.Usable.{UsableList}
-use Rattle.rootmap.specs.declared.Counted.TheVariants.{Ones}
-use Rattle.rootmap.specs.Map.{size_rules, map_filled, count_verdict, counted_of, ones_or}
+use Rattle.rootmap.specs.Map.{size_rules, map_filled, count_verdict, counted_of}
 use Rattle.rootmap.proofs.Verdicts.{size_fits, usable-passes}
 use Rattle.rootmap.proofs.Answers.{passes-map}
 
@@ -34,10 +34,10 @@ module _ (p n : ℕ) (residues : List ℤ) (levels old : List ℕ) {m : ℕ} (C 
       ap (λ (l : List ℕ). bit l r) accepted-map ∙ map_spare p n (naturals p (classes_of residues levels)) r h (omega (arith, long))
 
   -- a map of that length is counted
-  pub accepted-count : (map : List ℕ) → length map ≡ length old → counted_of p n map ≡ Ones (ones p n map)
+  pub accepted-count : (map : List ℕ) → length map ≡ length old → counted_of p n map ≡ Ok (ones p n map)
   unfolding counted_of count_verdict
   accepted-count map same =
-      ap (λ (v : Verdict). ones_or v (ones p n map))
+      ap (λ (v : Verdict). value_or v (ones p n map))
       (usable_leads C.modulus (size_rules (p ^ n) (length map)) ∙ size_fits (p ^ n) (length map) small (same ∙ long))
 
   module _ (S : ℕ → Bool) (rival : Rival S p n (naturals p (classes_of residues levels))) where
@@ -48,10 +48,10 @@ module _ (p n : ℕ) (residues : List ℤ) (levels old : List ℕ) {m : ℕ} (C 
 
     -- the count of a map with the same first pⁿ bits is the number of residues in S, whatever its spare bits
     pub rival-map-count : (map : List ℕ) → length map ≡ length old
-        → ((r : ℕ) → r < p ^ n → bit map r ≡ bit (map_filled p n residues levels old) r) → counted_of p n map ≡ Ones (count S p n)
+        → ((r : ℕ) → r < p ^ n → bit map r ≡ bit (map_filled p n residues levels old) r) → counted_of p n map ≡ Ok (count S p n)
     rival-map-count map same bits =
         accepted-count map same
-        ∙ ap Ones
+        ∙ ap Ok
         (ones_agree p n map (map_filled p n residues levels old) bits
         ∙ ap (ones p n) accepted-map
         ∙ rival-ones S p n (naturals p (classes_of residues levels)) rival)

@@ -1,6 +1,7 @@
 -- What the rules say of a map and of its count.
+use Rattle.std.specs.Prelude.{Result, Ok, Err}
 use mathlib.Core.Path.{◌≡◌, refl, sym, ap, ◌∙◌}
-use mathlib.Core.List.{List, [], ◌∷◌, ◌++◌}
+use mathlib.Core.List.{List, [], ◌∷◌}
 use Prim.Native.Nat.{ℕ, ◌^◌, ◌≤◌, ◌<◌}
 use native.Mathlib.Omega.{arith}
 use borrow.Author.Tests.{ltb-false, eqb-true, not-false}
@@ -10,17 +11,15 @@ use mathlib.Core.Bool.{not}
 use Rattle.theory.specs.RootMap.{map_length}
 use Rattle.refusal.specs.declared.Refusal.{Refusal}
 use Rattle.refusal.specs.declared.Refusal.TheVariants.{MapTooLarge, MapLength}
-use Rattle.refusal.specs.Rules.{Verdict, passes, refuses, tried, rule9, rule10}
+use Rattle.refusal.specs.Rules.{Verdict, passes, refuses, tried, rule9, rule10, value_or}
 use Rattle.refusal.proofs.Rules.{rule9_refuses, rule9_passes, rule10_refuses, rule10_passes, rule_passes, tried-first}
-use Rattle.numbers.specs.declared.Modulus.{Modulus}
-use Rattle.numbers.specs.declared.Modulus.TheVariants.{Accepted, Refused}
-use Rattle.numbers.specs.Modulus.{modulus_rules, power_or, modulus_of}
-use Rattle.numbers.proofs.Rules.{accepted_means, refused_means}
-use Rattle.classes.specs.Checked.{given_rules, checked_of}
+use Rattle.numbers.specs.Modulus.{modulus_of}
+use Rattle.numbers.specs.inner.Usable.{Usable}
+use Rattle.numbers.proofs.Rules.{refused-leads, usable_leads}
+use Rattle.classes.specs.Checked.{checked_of}
 use Rattle.classes.specs.inner.Usable.{UsableList}
-use Rattle.classes.proofs.Checks.{checked-leads}
+use Rattle.classes.proofs.Checks.{checked-leads, checked_refused}
 use Rattle.rootmap.specs.Map.{size_rules, map_verdict, count_verdict}
-use Rattle.rootmap.specs.inner.Size.{sized_of}
 
 -- Rules 9 and 10
 
@@ -38,7 +37,7 @@ pub record Sized (m bytes : ℕ) : Type 0 where
   pub small : m ≤ 524288
   pub long : bytes ≡ map_length m
 
-pub size_means : (m bytes : ℕ) → tried (size_rules m bytes) ≡ passes → Sized m bytes
+size_means : (m bytes : ℕ) → tried (size_rules m bytes) ≡ passes → Sized m bytes
 size_means m bytes e =
     let parts = tried-first (rule9 m) (rule10 bytes (map_length m) ∷ []) e in
     let ten = (tried-first (rule10 bytes (map_length m)) [] parts.1).0 in
@@ -48,36 +47,37 @@ size_means m bytes e =
           (rule_passes (not (eqb bytes (map_length m))) MapLength ten));
     }
 
--- where they pass, so did those before
-pub sized_accepted : (c : Modulus) (bytes m : ℕ) → sized_of c bytes ≡ Accepted m → (c ≡ Accepted m) × Sized m bytes
-sized_accepted (Accepted x) bytes m e =
-    let (v, q) = accepted_means (tried (size_rules x bytes)) x m e in
-    (ap Accepted (sym q), rw (← q) at (size_means x bytes v))
-sized_accepted (Refused r) bytes m e = let z : ◌≡◌ {A = ℕ} 0 1 = cc in absurd (omega arith)
+done_means : (v : Verdict) (x : Unit {0}) → value_or {A = Unit {0}} v tt ≡ Ok x → v ≡ passes
+done_means passes x e = refl
+done_means (refuses r) x e = let z : ◌≡◌ {A = ℕ} 0 1 = cc in absurd (omega arith)
 
--- what they answer after those before
-pub sized_is : (c : Modulus) (bytes m : ℕ) (v : Verdict) → c ≡ Accepted m → tried (size_rules m bytes) ≡ v → power_or v m ≡ sized_of c bytes
-sized_is c bytes m v e f = sym (ap (λ (x : Modulus). sized_of x bytes) e ∙ ap (λ (w : Verdict). power_or w m) f)
+refused-means : (v : Verdict) (r : Refusal) → value_or {A = Unit {0}} v tt ≡ Err r → v ≡ refuses r
+refused-means passes r e = let z : ◌≡◌ {A = ℕ} 0 1 = cc in absurd (omega arith)
+refused-means (refuses s) r e = ap refuses (cc)
 
--- they are the last rules of the map and of the count
-sized_after : (rules : List Verdict) (x bytes : ℕ)
-    → sized_of (power_or (tried rules) x) bytes ≡ power_or (tried (rules ++ size_rules x bytes)) x
-sized_after [] x bytes = refl
-sized_after (passes ∷ rules) x bytes = sized_after rules x bytes
-sized_after (refuses r ∷ rules) x bytes = refl
+-- what their answer says
+module _ (m bytes : ℕ) {answer : Result (Unit {0}) Refusal} (e : answer ≡ value_or (tried (size_rules m bytes)) tt) where
+  pub size_known : {x : Unit {0}} → answer ≡ Ok x → tried (size_rules m bytes) ≡ passes
+  size_known {x} f = done_means (tried (size_rules m bytes)) x (sym e ∙ f)
+
+  pub size_refused : {r : Refusal} → answer ≡ Err r → tried (size_rules m bytes) ≡ refuses r
+  size_refused {r} f = refused-means (tried (size_rules m bytes)) r (sym e ∙ f)
+
+  pub sized : {x : Unit {0}} → answer ≡ Ok x → Sized m bytes
+  sized f = size_means m bytes (size_known f)
 
 module _ (p n : ℕ) (residues : List ℤ) (levels : List ℕ) (bytes : ℕ) where
-  sized-map : sized_of (checked_of p n residues levels) bytes ≡ power_or (map_verdict p n residues levels bytes) (p ^ n)
-  unfolding checked_of map_verdict
-  sized-map = sized_after (given_rules p n residues levels) (p ^ n) bytes
+  -- a list that the rules refuse
+  pub list-refused : (r : Refusal) → checked_of p n residues levels ≡ Err r → map_verdict p n residues levels bytes ≡ refuses r
+  unfolding map_verdict
+  list-refused r e = checked_refused p n residues levels r e (size_rules (p ^ n) bytes)
 
-  pub map-passes : (m : ℕ) → sized_of (checked_of p n residues levels) bytes ≡ Accepted m
-      → (map_verdict p n residues levels bytes ≡ passes) × (m ≡ p ^ n)
-  map-passes m e = accepted_means (map_verdict p n residues levels bytes) (p ^ n) m (sym sized-map ∙ e)
-
-  pub map-refuses : (r : Refusal) → sized_of (checked_of p n residues levels) bytes ≡ Refused r
-      → map_verdict p n residues levels bytes ≡ refuses r
-  map-refuses r e = refused_means (map_verdict p n residues levels bytes) (p ^ n) r (sym sized-map ∙ e)
+  -- a list that they accept
+  pub list-leads : {m : ℕ} → UsableList p n residues levels m → map_verdict p n residues levels bytes ≡ tried (size_rules m bytes)
+  unfolding map_verdict
+  list-leads C =
+      checked-leads p n residues levels C (size_rules (p ^ n) bytes)
+      ∙ ap (λ (x : ℕ). tried (size_rules x bytes)) (sym C.modulus.power)
 
   -- a list that the rules accept, with pⁿ up to 524,288 and the right length
   pub usable-passes : {m : ℕ} → UsableList p n residues levels m → p ^ n ≤ 524288 → bytes ≡ map_length (p ^ n)
@@ -87,12 +87,10 @@ module _ (p n : ℕ) (residues : List ℤ) (levels : List ℕ) (bytes : ℕ) whe
       checked-leads p n residues levels C (size_rules (p ^ n) bytes) ∙ size_fits (p ^ n) bytes small long
 
 module _ (p n bytes : ℕ) where
-  sized-count : sized_of (modulus_of p n) bytes ≡ power_or (count_verdict p n bytes) (p ^ n)
-  unfolding modulus_of count_verdict
-  sized-count = sized_after (modulus_rules p n) (p ^ n) bytes
+  pub modulus-refused : (r : Refusal) → modulus_of p n ≡ Err r → count_verdict p n bytes ≡ refuses r
+  unfolding count_verdict
+  modulus-refused r e = refused-leads p n r e (size_rules (p ^ n) bytes)
 
-  pub count-passes : (m : ℕ) → sized_of (modulus_of p n) bytes ≡ Accepted m → (count_verdict p n bytes ≡ passes) × (m ≡ p ^ n)
-  count-passes m e = accepted_means (count_verdict p n bytes) (p ^ n) m (sym sized-count ∙ e)
-
-  pub count-refuses : (r : Refusal) → sized_of (modulus_of p n) bytes ≡ Refused r → count_verdict p n bytes ≡ refuses r
-  count-refuses r e = refused_means (count_verdict p n bytes) (p ^ n) r (sym sized-count ∙ e)
+  pub modulus_leads : {m : ℕ} → Usable p n m → count_verdict p n bytes ≡ tried (size_rules m bytes)
+  unfolding count_verdict
+  modulus_leads U = usable_leads U (size_rules (p ^ n) bytes) ∙ ap (λ (x : ℕ). tried (size_rules x bytes)) (sym U.power)

@@ -1,15 +1,12 @@
 -- The root map of a given list, and a map's count (01, "Lent lists, map and text" and "When the solver declines").
-use Rattle.std.specs.Prelude.{List, [], ◌∷◌, ◌++◌, ℕ, ◌^◌, ℤ, length}
+use Rattle.std.specs.Prelude.{List, [], ◌∷◌, ◌++◌, ℕ, ◌^◌, ℤ, length, Result}
+use Rattle.refusal.specs.declared.Refusal.{Refusal}
 use Rattle.theory.specs.RootMap.{map_length, root_map, ones}
 use Rattle.theory.specs.SignedClass.{natural, naturals}
-use Rattle.refusal.specs.Rules.{Verdict, passes, refuses, tried, filled, rule9, rule10}
+use Rattle.refusal.specs.Rules.{Verdict, tried, filled, rule9, rule10, value_or}
 use Rattle.numbers.specs.Modulus.{modulus_rules}
 use Rattle.classes.specs.Rule7.{classes_of}
 use Rattle.classes.specs.Checked.{given_rules}
-use Rattle.rootmap.specs.declared.Mapped.{Mapped}
-use Rattle.rootmap.specs.declared.Mapped.TheVariants as mapped
-use Rattle.rootmap.specs.declared.Counted.{Counted}
-use Rattle.rootmap.specs.declared.Counted.TheVariants as counted
 
 -- rules 9 and 10, given m = pⁿ and the map's length
 abbrev pub size_rules : ℕ → ℕ → List Verdict
@@ -22,15 +19,10 @@ unfoldable pub map_verdict : ℕ → ℕ → List ℤ → List ℕ → ℕ → V
 unfolding given_rules map_length
 map_verdict p n residues levels bytes = tried (given_rules p n residues levels ++ size_rules (p ^ n) bytes)
 
--- that the map is filled, or the refusal
-abbrev pub filled_or : Verdict → Mapped
-filled_or passes = mapped.Filled
-filled_or (refuses r) = mapped.Refused r
-
 -- the answer to a call for the map
-unfoldable pub mapped_of : ℕ → ℕ → List ℤ → List ℕ → ℕ → Mapped
+unfoldable pub mapped_of : ℕ → ℕ → List ℤ → List ℕ → ℕ → Result Unit Refusal
 unfolding map_verdict
-mapped_of p n residues levels bytes = filled_or (map_verdict p n residues levels bytes)
+mapped_of p n residues levels bytes = value_or (map_verdict p n residues levels bytes) tt
 
 -- what the lent map holds after the call: "one bit a residue", "spare high bits of the last byte are zero"
 unfoldable pub map_filled : ℕ → ℕ → List ℤ → List ℕ → List ℕ → List ℕ
@@ -45,12 +37,7 @@ unfoldable pub count_verdict : ℕ → ℕ → ℕ → Verdict
 unfolding modulus_rules map_length
 count_verdict p n bytes = tried (modulus_rules p n ++ size_rules (p ^ n) bytes)
 
--- the number of ones, or the refusal
-abbrev pub ones_or : Verdict → ℕ → Counted
-ones_or passes k = counted.Ones k
-ones_or (refuses r) k = counted.Refused r
-
 -- "The map's count takes p, n and a map, and counts the ones of its first pⁿ bits, spare bits ignored"
-unfoldable pub counted_of : ℕ → ℕ → List ℕ → Counted
+unfoldable pub counted_of : ℕ → ℕ → List ℕ → Result ℕ Refusal
 unfolding count_verdict ones
-counted_of p n map = ones_or (count_verdict p n (length map)) (ones p n map)
+counted_of p n map = value_or (count_verdict p n (length map)) (ones p n map)

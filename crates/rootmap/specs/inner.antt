@@ -1,4 +1,3 @@
 -- The words of the inner functions' contracts.
 pub mod Bits
-pub mod Size
 pub mod Word

@@ -7,7 +7,5 @@ pub(crate) fn set_bit(map: &mut [u8], r: usize)
     requires { r < 8 * length map.old }
     ensures { Added (λ s. eqb s r) map.old map.new }
 {
-    let i = r / 8;
-    let mask = 1u8 << (r % 8);
-    map[i] = map[i] | mask;
+    map[r / 8] |= 1u8 << (r % 8);
 }

@@ -10,10 +10,8 @@ fn word(map: &[u8], i: usize, k: usize) -> u64
     ensures { result ≡ bits_from (bit map.now) (8 * k) (8 * i) }
 {
     let mut x: u64 = 0;
-    let mut j: usize = 0;
-    while j < k {
-        x = x | ((map[i + j] as u64) << (8 * j));
-        j += 1;
+    for (j, &byte) in map[i..i + k].iter().enumerate() {
+        x |= (byte as u64) << (8 * j);
     }
     x
 }
@@ -30,7 +28,7 @@ fn low_bits(x: u64, k: usize) -> u64
 fn word_ones(x: u64) -> u64
     ensures { result ≡ ones_of 64 x }
 {
-    u64::count_ones(x) as u64
+    x.count_ones() as u64
 }
 
 // The number of ones of the first k words.
@@ -39,10 +37,8 @@ fn ones_of_words(map: &[u8], k: usize) -> u64
     ensures { result ≡ ones_below (64 * k) map.now }
 {
     let mut ones: u64 = 0;
-    let mut i: usize = 0;
-    while i < k {
+    for i in 0..k {
         ones += word_ones(word(map, 8 * i, 8));
-        i += 1;
     }
     ones
 }

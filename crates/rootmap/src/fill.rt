@@ -1,5 +1,5 @@
-// Filling a map: all bytes zero, then the bits of each class's members.
-ghost use Rattle.std.specs.Prelude.{◌≡◌, ◌&&◌, ℕ, ◌*◌, ◌%◌, ◌^◌, ◌≤◌, ◌<◌, eqb, ltb, length, get_or};
+// Setting the bits of the members of classes.
+ghost use Rattle.std.specs.Prelude.{◌≡◌, ◌&&◌, ◌*◌, ◌%◌, ◌^◌, ◌≤◌, ◌<◌, eqb, ltb, length};
 ghost use Rattle.theory.specs.Class.{is_member};
 ghost use Rattle.theory.specs.ClassList.{members};
 ghost use Rattle.theory.specs.SignedClass.{signed_class, natural, naturals};
@@ -9,26 +9,13 @@ ghost use Rattle.classes.specs.inner.Usable.{UsableList};
 
 use crate::bits;
 
-// Makes every byte zero.
-pub(crate) fn clear(map: &mut [u8])
-    ensures { (i : ℕ) → get_or map.new i 0 ≡ 0 }
-{
-    let mut j: usize = 0;
-    while j < map.len() {
-        map[j] = 0;
-        j += 1;
-    }
-}
-
 // Sets the bits of a, a + q, a + 2·q, … below m.
 fn set_members(a: usize, q: usize, m: usize, map: &mut [u8])
     requires { (a < q) × (q ≤ 4294967295) × (m ≤ 524288) × (m ≤ 8 * length map.old) }
     ensures { Added (λ r. ltb r m && eqb (r % q) a) map.old map.new }
 {
-    let mut r = a;
-    while r < m {
+    for r in (a..m).step_by(q) {
         bits::set_bit(map, r);
-        r += q;
     }
 }
 
@@ -48,9 +35,7 @@ pub(crate) fn set_classes(p: u32, n: u32, residues: &[i32], levels: &[u8], m: us
     ensures { Added (λ r. ltb r m && members p (naturals p (classes_of residues.now levels.now)) r)
         map.old map.new }
 {
-    let mut i: usize = 0;
-    while i < residues.len() {
-        set_class(p, residues[i], levels[i], m, map);
-        i += 1;
+    for (&a, &t) in residues.iter().zip(levels) {
+        set_class(p, a, t, m, map);
     }
 }

@@ -1,13 +1,13 @@
 -- The answers of a row of calls, one call at a time.
 use mathlib.Core.Path.{◌≡◌, refl, sym, ap, ap₂, ◌∙◌}
 use mathlib.Core.Bool.{Bool}
-use mathlib.Core.List.{List, [], ◌∷◌, ◌++◌, map, append-nil}
+use mathlib.Core.List.{List, [], ◌∷◌, ◌++◌, map}
 use Prim.Native.Nat.{ℕ, zero, suc, ◌+◌, ◌-◌, ◌^◌, ◌≤◌, ◌<◌}
 use native.Mathlib.Omega.{arith}
 use native.Mathlib.Decide.{dec_lt}
 use lib.IntN.{ℤ}
 use lib.ListN.{length, length-map, set, drop, get_or}
-use lib.Seq.{set_at, append_snoc, drop-length}
+use lib.Seq.{set_at, append_snoc}
 use Rattle.theory.specs.Lists.{here}
 use Rattle.theory.specs.ClassList.{members, from}
 use Rattle.theory.specs.SignedClass.{naturals}
@@ -17,10 +17,10 @@ use Rattle.theory.proofs.Lists.Map.{map-append}
 use Rattle.theory.proofs.Range.{passing_sound}
 use Rattle.refusal.specs.declared.Refusal.TheVariants.{Point}
 use Rattle.refusal.specs.Number.{number_of, place_of}
-use Rattle.refusal.specs.Rules.{passes, refuses, rule8}
+use Rattle.refusal.specs.Rules.{passes, refuses, rule8, value_or}
 use Rattle.refusal.proofs.Rules.{rule8_passes, rule8_refuses}
 use Rattle.classes.specs.Rule7.{classes_of}
-use Rattle.classes.specs.Next.{next_verdict, next_or, next_of}
+use Rattle.classes.specs.Next.{next_verdict, first, next_of}
 use Rattle.classes.specs.inner.Usable.{UsableList}
 use Rattle.classes.proofs.Checks.{checked-leads}
 use Rattle.stepping.specs.Encoded.{encode}
@@ -85,15 +85,10 @@ gone-next next q i point point' code old answers h g c p =
       at = p ∙ ap (λ (x : ℕ). following (next x) x) g.at ∙ sym (point-next next q i);
     }
 
-pub gone-all : (next : ℕ → Answer) (q i point : ℕ) (old answers : List ℕ) → Gone next q i point old answers → i ≡ length old
-    → answers ≡ map encode (answers_from next q (length old))
-gone-all next q i point old answers g e =
-    g.slots ∙ rw (e, drop-length old, append-nil (map encode (answers_from next q (length old))))
-
 -- What next may answer on an accepted list
 
 module _ (m : ℕ) (small : m ≤ 4294967295) where
-  from_list : (l : List ℕ) → ((r : ℕ) (rest : List ℕ) → l ≡ r ∷ rest → r < m) → Reached (next_or passes l)
+  from_list : (l : List ℕ) → ((r : ℕ) (rest : List ℕ) → l ≡ r ∷ rest → r < m) → Reached (value_or passes (first l))
   from_list [] h =
       record {
         root_fits = λ r e. let z : ◌≡◌ {A = ℕ} 0 1 = cc e in absurd (omega arith);
@@ -105,7 +100,7 @@ module _ (m : ℕ) (small : m ≤ 4294967295) where
         only_point = λ r e. let z : ◌≡◌ {A = ℕ} 0 1 = cc e in absurd (omega arith);
       }
 
-from-point : (l : List ℕ) → Reached (next_or (refuses Point) l)
+from-point : (l : List ℕ) → Reached (value_or (refuses Point) (first l))
 from-point l =
     record {
       root_fits = λ r e. let z : ◌≡◌ {A = ℕ} 0 1 = cc e in absurd (omega arith);

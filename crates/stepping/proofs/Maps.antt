@@ -1,4 +1,5 @@
 -- The map of the solver's list: its bits are the roots, and its count is the root count.
+use Rattle.std.specs.Prelude.{Ok}
 use mathlib.Core.Path.{◌≡◌, refl}
 use Prim.Native.Nat.{ℕ, ◌^◌, ◌≤◌, ◌<◌}
 use mathlib.Core.List.{List}
@@ -9,7 +10,6 @@ use Rattle.theory.specs.RootMap.{bit, map_length}
 use Rattle.theory.specs.Rival.{Rival}
 use Rattle.theory.specs.SignedClass.{naturals}
 use Rattle.classes.specs.Rule7.{classes_of}
-use Rattle.rootmap.specs.declared.Counted.TheVariants.{Ones}
 use Rattle.rootmap.specs.Map.{map_filled, counted_of}
 use Rattle.rootmap.proofs.Rivals.{rival-map-bit, rival-map-count}
 use Rattle.stepping.specs.Call.{Input, Accepted, first_residues, first_levels, first_slots}
@@ -33,7 +33,7 @@ module _ (x : Input) {k roots-found : ℕ} (A : Accepted x k roots-found) (small
   -- a map with these bits, whatever its spare bits, counts the roots: the solver's root count
   pub map-count : (map : List ℕ) → length map ≡ length old
       → ((r : ℕ) → r < x.p ^ x.n → bit map r ≡ bit (map_filled x.p x.n (first_residues x k) (first_levels x k) old) r)
-      → counted_of x.p x.n map ≡ Ones roots-found
+      → counted_of x.p x.n map ≡ Ok roots-found
   map-count map same bits =
       rw (accepted-count x A)
       (rival-map-count x.p x.n (first_residues x k) (first_levels x k) old (list-usable x A _ _ refl refl) small long

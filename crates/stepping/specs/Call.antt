@@ -1,8 +1,7 @@
 -- An accepted call of the solver, and what it left in the lists it was lent.
-use Rattle.std.specs.Prelude.{◌≡◌, List, ℕ, ℤ, take}
+use Rattle.std.specs.Prelude.{◌≡◌, List, ℕ, ℤ, take, Ok}
 use Rattle.theory.specs.SignedClass.{SignedClass}
-use Rattle.solver.specs.declared.Solved.TheVariants.{Found}
-use Rattle.solver.specs.Solve.{Lists, solved_of, lists_after}
+use Rattle.solver.specs.Solve.{Lists, found, solved_of, lists_after}
 use Rattle.classes.specs.Rule7.{classes_of}
 
 -- coefficients, p and n, and the three lists as lent
@@ -15,7 +14,7 @@ pub record Input : Type 0 where
 -- the call is accepted and returns k, the root count and a number of live classes: the solver's contract, clause `answer`
 pub record Accepted (x : Input) (k roots : ℕ) : Type 0 where
   pub live : ℕ
-  pub answer : solved_of x.f x.p x.n x.given ≡ Found k roots live
+  pub answer : solved_of x.f x.p x.n x.given ≡ Ok (found k roots live)
 
 -- the lists as the solver left them: its contract, clause `lists`
 unfoldable pub lists_left : Input → Lists

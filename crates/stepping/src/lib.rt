@@ -11,8 +11,8 @@ ghost use Rattle.classes.specs.inner.Usable.{UsableList};
 ghost use Rattle.stepping.specs.Encoded.{encode};
 ghost use Rattle.stepping.specs.inner.Reached.{Reached};
 
-use classes::Next;
-use solver::Solved;
+use refusal::Refusal;
+use solver::Found;
 
 // Solves, and then calls next once for each slot of `answers`, first from `start`: after a root r from r + 1, after none or a refusal from
 // the same point. An answer is a number: a root itself, 2^32 for none, (number + 1) × 2^32 + place for a refusal. The lists are filled as
@@ -26,7 +26,7 @@ pub fn step_through(
     marks: &mut [u8],
     start: u32,
     answers: &mut [u64],
-) -> Solved
+) -> Result<Found, Refusal>
     ensures answer { result ≡ solved_of coefficients.now p n
         (lists_of residues.old levels.old marks.old) }
     ensures lists { lists_of residues.new levels.new marks.new
@@ -38,28 +38,10 @@ pub fn step_through(
         (map encode (claimed (roots_of coefficients.now p n) p n start (length answers.old)))
         answers.old }
 {
-    match solver::solve(coefficients, p, n, residues, levels, marks) {
-        Solved::Found {
-            classes,
-            roots,
-            live,
-        } => {
-            ask(
-                p,
-                n,
-                &residues[..classes],
-                &levels[..classes],
-                start,
-                answers,
-            );
-            Solved::Found {
-                classes,
-                roots,
-                live,
-            }
-        }
-        Solved::Refused(r) => Solved::Refused(r),
-    }
+    let found = solver::solve(coefficients, p, n, residues, levels, marks)?;
+    let k = found.classes;
+    ask(p, n, &residues[..k], &levels[..k], start, answers);
+    Ok(found)
 }
 
 // The calls of next.
@@ -70,40 +52,24 @@ fn ask(p: u32, n: u32, residues: &[i32], levels: &[u8], start: u32, answers: &mu
         (length answers.old)) }
 {
     let mut point = start;
-    let mut i: usize = 0;
-    while i < answers.len() {
-        let s = step(classes::next_root(p, n, residues, levels, point), point);
-        answers[i] = s.code;
-        point = s.point;
-        i += 1;
+    for answer in answers.iter_mut() {
+        let next = classes::next_root(p, n, residues, levels, point);
+        (*answer, point) = step(next, point);
     }
 }
 
-#[derive(Clone, Copy)]
-struct Asked {
-    // the answer as a number
-    code: u64,
-    // the following call's point
-    point: u32,
-}
-
-// One answer, and the following call's point.
-fn step(next: Next, point: u32) -> Asked
+// One answer as a number, and the following call's point.
+fn step(next: Result<Option<u32>, Refusal>, point: u32) -> (u64, u32)
     requires { Reached next }
-    ensures { (result.code ≡ encode (answer_of next)) × (result.point ≡ following (answer_of next) point) }
+    ensures answer { result.0 ≡ encode (answer_of next) }
+    ensures point { result.1 ≡ following (answer_of next) point }
 {
     match next {
-        Next::Root(r) => Asked {
-            code: r as u64,
-            point: r + 1,
-        },
-        Next::None => Asked {
-            code: 4294967296,
+        Ok(Some(r)) => (r as u64, r + 1),
+        Ok(None) => (4294967296, point),
+        Err(r) => (
+            (r.number() as u64 + 1) * 4294967296 + r.place() as u64,
             point,
-        },
-        Next::Refused(r) => Asked {
-            code: (r.number() as u64 + 1) * 4294967296 + r.place() as u64,
-            point,
-        },
+        ),
     }
 }

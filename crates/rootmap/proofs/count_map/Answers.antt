@@ -1,41 +1,45 @@
 -- `rootmap::count_map` meets its contract.
-use mathlib.Core.Path.{◌≡◌, sym, ap, ◌∙◌}
-use Prim.Native.Nat.{ℕ}
+use mathlib.Core.Path.{◌≡◌, sym, ◌∙◌}
 use native.Mathlib.Omega.{arith}
+use borrow.Author.Rules.{rules}
 use lib.ListN.{length}
-use Rattle.numbers.specs.declared.Modulus.{Modulus}
-use Rattle.numbers.specs.Modulus.{modulus_of}
+use Rattle.std.specs.Prelude.{Err}
 use Rattle.theory.specs.RootMap.{map_length}
-use Rattle.rootmap.specs.inner.Size.{sized_of}
-use Rattle.rootmap.proofs.Verdicts.{sized_accepted, count-passes, count-refuses}
+use Rattle.numbers.proofs.Rules.{usable}
+use Rattle.rootmap.proofs.Verdicts.{sized, size_refused, size_known, modulus-refused, modulus_leads}
 use Rattle.rootmap.proofs.Answers.{counted_is, count-refused-is}
 use Rattle.rootmap.proofs.count_map.Goals as goal
 
--- what all rules say
-rules_say : (checked sized : Modulus) (p n bytes : ℕ) → checked ≡ modulus_of p n → sized ≡ sized_of checked bytes
-    → sized_of (modulus_of p n) bytes ≡ sized
-rules_say checked sized p n bytes e f = sym (f ∙ ap (λ (x : Modulus). sized_of x bytes) e)
+pub returns-in_err-m : goal.returns-in_err-m
+returns-in_err-m c =
+    let a = c.args in
+    let r = c.in_err-m.field-0.0 in
+    let is : c.from_residual.result ≡ Err r = search rules in
+    let v = modulus-refused a.p a.n (length a.map.now) r (sym c.check_modulus.ensures ∙ c.in_err-m.was) in
+    is ∙ count-refused-is a.p a.n a.map.now r v
+
+pub returns-in_err-check_size : goal.returns-in_err-check_size
+returns-in_err-check_size c =
+    let a = c.args in
+    let m = c.in_ok-m.m in
+    let r = c.in_err-check_size.field-0.0 in
+    let is : c.from_residual-in_err-check_size.result ≡ Err r = search rules in
+    let U = usable a.p a.n m (sym c.check_modulus.ensures ∙ c.in_ok-m.was) in
+    let bytes = length a.map.now in
+    let v = modulus_leads a.p a.n bytes U ∙ size_refused m bytes c.check_size.ensures c.in_err-check_size.was in
+    is ∙ count-refused-is a.p a.n a.map.now r v
 
 pub count_ones-requires : goal.count_ones-requires
 unfolding map_length
 count_ones-requires c =
-    let a = c.args in
-    let bytes = length a.map.now in
-    let say = rules_say c.check_modulus.result c.check_size.result a.p a.n bytes c.check_modulus.ensures c.check_size.ensures in
-    let s = (sized_accepted (modulus_of a.p a.n) bytes c.in-Accepted.m (say ∙ c.in-Accepted.is)).1 in
+    let s = sized c.in_ok-m.m (length c.args.map.now) c.check_size.ensures c.in_ok-check_size.was in
     (s.small, omega (arith, s.long))
 
-pub returns-in-Accepted : goal.returns-in-Accepted
-returns-in-Accepted c =
+pub returns : goal.returns
+returns c =
     let a = c.args in
+    let m = c.in_ok-m.m in
+    let U = usable a.p a.n m (sym c.check_modulus.ensures ∙ c.in_ok-m.was) in
     let bytes = length a.map.now in
-    let say = rules_say c.check_modulus.result c.check_size.result a.p a.n bytes c.check_modulus.ensures c.check_size.ensures in
-    let (v, q) = count-passes a.p a.n bytes c.in-Accepted.m (say ∙ c.in-Accepted.is) in
-    counted_is a.p a.n a.map.now c.in-Accepted.m c.count_ones.result v q c.count_ones.ensures
-
-pub returns-in-Refused : goal.returns-in-Refused
-returns-in-Refused c =
-    let a = c.args in
-    let bytes = length a.map.now in
-    let say = rules_say c.check_modulus.result c.check_size.result a.p a.n bytes c.check_modulus.ensures c.check_size.ensures in
-    count-refused-is a.p a.n a.map.now c.in-Refused.r (count-refuses a.p a.n bytes c.in-Refused.r (say ∙ c.in-Refused.is))
+    let v = modulus_leads a.p a.n bytes U ∙ size_known m bytes c.check_size.ensures c.in_ok-check_size.was in
+    counted_is a.p a.n a.map.now m c.count_ones.result v U.power c.count_ones.ensures

@@ -4,7 +4,10 @@ use mathlib.Core.List.{List}
 use Prim.Native.Nat.{ℕ}
 use lib.IntN.{ℤ}
 use lib.Seq.{length-take-le}
-use Rattle.solver.specs.Solve.{Lists, lists, lists_after}
+use Rattle.std.specs.Prelude.{Result, Ok}
+use Rattle.refusal.specs.declared.Refusal.{Refusal}
+use Rattle.solver.specs.declared.Found.{Found}
+use Rattle.solver.specs.Solve.{Lists, lists, solved_of, lists_after}
 use Rattle.stepping.specs.Call.{Input, Accepted, lists_left}
 use Rattle.solver.proofs.Answered.{refused-verdict}
 use Rattle.stepping.proofs.Accept.{residues-long, levels-long}
@@ -26,66 +29,57 @@ module _ (x : Input) (residues : List ℤ) (levels marks : List ℕ)
   unfolding lists_left
   levels_are = ap (λ (l : Lists). l.levels) left
 
+-- what it found
+accepted : (x : Input) (answer : Result Found Refusal) (f : Found) → answer ≡ solved_of x.f x.p x.n x.given → answer ≡ Ok f
+    → Accepted x f.classes f.roots
+accepted x answer f e is = record { live = f.live; answer = sym e ∙ is }
+
 pub slice_bounds-ask-end : goal.slice_bounds-ask-end
 slice_bounds-ask-end c =
     let a = c.args in
     let x = input a.coefficients.now a.p a.n a.residues.now a.levels.now a.marks.now in
-    let A : Accepted x c.in-Found.classes c.in-Found.roots =
-    record { live = c.in-Found.live; answer = sym c.solve.ensures.answer ∙ c.in-Found.is } in
+    let A = accepted x _ _ c.solve.ensures.answer c.in_ok-found.was in
     rw (residues_are x _ _ _ c.solve.ensures.lists) (residues-long x A)
 
-pub slice_bounds-ask-end-in-Found : goal.slice_bounds-ask-end-in-Found
-slice_bounds-ask-end-in-Found c =
+pub slice_bounds-ask-end-2 : goal.slice_bounds-ask-end-2
+slice_bounds-ask-end-2 c =
     let a = c.args in
     let x = input a.coefficients.now a.p a.n a.residues.now a.levels.now a.marks.now in
-    let A : Accepted x c.in-Found.classes c.in-Found.roots =
-    record { live = c.in-Found.live; answer = sym c.solve.ensures.answer ∙ c.in-Found.is } in
+    let A = accepted x _ _ c.solve.ensures.answer c.in_ok-found.was in
     sym (length-take-le _ _ (rw (residues_are x _ _ _ c.solve.ensures.lists) (residues-long x A)))
 
-pub slice_bounds-ask-end-in-Found-2 : goal.slice_bounds-ask-end-in-Found-2
-slice_bounds-ask-end-in-Found-2 c =
+pub slice_bounds-ask-end-3 : goal.slice_bounds-ask-end-3
+slice_bounds-ask-end-3 c =
     let a = c.args in
     let x = input a.coefficients.now a.p a.n a.residues.now a.levels.now a.marks.now in
-    let A : Accepted x c.in-Found.classes c.in-Found.roots =
-    record { live = c.in-Found.live; answer = sym c.solve.ensures.answer ∙ c.in-Found.is } in
+    let A = accepted x _ _ c.solve.ensures.answer c.in_ok-found.was in
     rw (levels_are x _ _ _ c.solve.ensures.lists) (levels-long x A)
 
-pub slice_bounds-ask-end-in-Found-3 : goal.slice_bounds-ask-end-in-Found-3
-slice_bounds-ask-end-in-Found-3 c =
+pub slice_bounds-ask-end-4 : goal.slice_bounds-ask-end-4
+slice_bounds-ask-end-4 c =
     let a = c.args in
     let x = input a.coefficients.now a.p a.n a.residues.now a.levels.now a.marks.now in
-    let A : Accepted x c.in-Found.classes c.in-Found.roots =
-    record { live = c.in-Found.live; answer = sym c.solve.ensures.answer ∙ c.in-Found.is } in
+    let A = accepted x _ _ c.solve.ensures.answer c.in_ok-found.was in
     sym (length-take-le _ _ (rw (levels_are x _ _ _ c.solve.ensures.lists) (levels-long x A)))
 
 pub ask-requires : goal.ask-requires
 ask-requires c =
     let a = c.args in
     let x = input a.coefficients.now a.p a.n a.residues.now a.levels.now a.marks.now in
-    let A : Accepted x c.in-Found.classes c.in-Found.roots =
-    record { live = c.in-Found.live; answer = sym c.solve.ensures.answer ∙ c.in-Found.is } in
+    let A = accepted x _ _ c.solve.ensures.answer c.in_ok-found.was in
     let left = c.solve.ensures.lists in
     list-usable x A _ _ (residues_are x _ _ _ left) (levels_are x _ _ _ left)
 
-pub returns-in-Found : goal.returns-in-Found
-returns-in-Found c =
+pub returns-clause-answers : goal.returns-clause-answers
+returns-clause-answers c =
     let a = c.args in
     let x = input a.coefficients.now a.p a.n a.residues.now a.levels.now a.marks.now in
-    let A : Accepted x c.in-Found.classes c.in-Found.roots =
-    record { live = c.in-Found.live; answer = sym c.solve.ensures.answer ∙ c.in-Found.is } in
-    let left = c.solve.ensures.lists in record {
-      answer = sym c.in-Found.is ∙ c.solve.ensures.answer;
-      lists = left;
-      answers = answers-left x A _ _ (residues_are x _ _ _ left) (levels_are x _ _ _ left) a.start a.answers.now _
-          c.ask.ensures;
-    }
+    let A = accepted x _ _ c.solve.ensures.answer c.in_ok-found.was in
+    let left = c.solve.ensures.lists in
+    answers-left x A _ _ (residues_are x _ _ _ left) (levels_are x _ _ _ left) a.start a.answers.now _ c.ask.ensures
 
-pub returns-in-Refused : goal.returns-in-Refused
-returns-in-Refused c =
+pub returns-in_err-found-clause-answers : goal.returns-in_err-found-clause-answers
+returns-in_err-found-clause-answers c =
     let a = c.args in
-    let v =
-    refused-verdict a.coefficients.now _ _ (lists a.residues.now a.levels.now a.marks.now) _ (sym c.solve.ensures.answer ∙ c.in-Refused.is) in record {
-      answer = sym c.in-Refused.is ∙ c.solve.ensures.answer;
-      lists = c.solve.ensures.lists;
-      answers = rw v;
-    }
+    let given = lists a.residues.now a.levels.now a.marks.now in
+    rw (refused-verdict a.coefficients.now _ _ given _ (sym c.solve.ensures.answer ∙ c.in_err-found.was))

@@ -10,12 +10,12 @@ use Rattle.rootmap.proofs.Ones.{ones_none, ones_next, ones_most}
 use Rattle.rootmap.proofs.count.ones_of_words.Goals as goal
 
 pub loop-i-init : goal.loop-i-init
-loop-i-init c = (omega arith, ones_none c.args.map.now)
+loop-i-init c = ones_none c.args.map.now
 
 pub overflow_add-ones : goal.overflow_add-ones
 overflow_add-ones c =
     let before = ones_most c.args.map.now (64 * c.loop-i.i) in
-    record { fits = omega (arith, c.loop-i.invariant.1, before, c.word_ones-ones.ensures, ones_of_most 64 c.word.result) }
+    record { fits = omega (arith, c.loop-i.invariant, before, c.word_ones-ones.ensures, ones_of_most 64 c.word.result) }
 
 pub loop-i-preserved : goal.loop-i-preserved
 loop-i-preserved c =
@@ -23,15 +23,7 @@ loop-i-preserved c =
     let i = c.loop-i.i in
     let place : 8 * (8 * i) ≡ 64 * i = omega arith in
     let next : 64 * i + 64 ≡ 64 * (i + 1) = omega arith in
-    let word : c.word.result ≡ bits_from (bit map) 64 (8 * (8 * i)) = c.word.ensures in (
-      omega arith,
-      ap₂ (λ (x y : ℕ). x + y) c.loop-i.invariant.1 (c.word_ones-ones.ensures ∙ ap (ones_of 64) (word ∙ ap (bits_from (bit map) 64) place))
-          ∙ ones_next map (64 * i) 64 64 (omega arith)
-          ∙ ap (λ (m : ℕ). ones_below m map) next,
-    )
-
-pub returns : goal.returns
-returns c =
-    let a = c.args in
-    let all : c.loop-i.i ≡ a.k = omega arith in
-    c.loop-i.invariant.1 ∙ ap (λ (i : ℕ). ones_below (64 * i) a.map.now) all
+    let word : c.word.result ≡ bits_from (bit map) 64 (8 * (8 * i)) = c.word.ensures in
+    ap₂ (λ (x y : ℕ). x + y) c.loop-i.invariant (c.word_ones-ones.ensures ∙ ap (ones_of 64) (word ∙ ap (bits_from (bit map) 64) place))
+    ∙ ones_next map (64 * i) 64 64 (omega arith)
+    ∙ ap (λ (m : ℕ). ones_below m map) next

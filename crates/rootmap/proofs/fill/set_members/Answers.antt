@@ -18,9 +18,6 @@ loop-r-init c =
       added_none (member_below a.a a.q a.a) a.map.now (λ s. members-first a.a a.q s (small)),
     )
 
-pub loop-r-smaller : goal.loop-r-smaller
-loop-r-smaller c = omega arith
-
 pub loop-r-preserved : goal.loop-r-preserved
 loop-r-preserved c =
     let a = c.args in
@@ -39,3 +36,14 @@ returns c =
     let r = c.loop-r.r in
     added_same (member_below a.a a.q r) (member_below a.a a.q a.m) a.map.now c.loop-r.map c.loop-r.invariant.3
     (λ s. members-last a.a a.q a.m r s c.loop-r.invariant.0 (omega arith) c.loop-r.invariant.1)
+
+pub returns-2 : goal.returns-2
+returns-2 c =
+    let a = c.args in
+    let r = c.loop-r.r in
+    let pos : 0 < a.q = omega arith in
+    let next = add-mod_right r a.q ∙ c.loop-r.invariant.0 in
+    added_same (member_below a.a a.q (r + a.q)) (member_below a.a a.q a.m) a.map.now c.set_bit.new.map
+    (added_both (member_below a.a a.q r) (λ s. eqb s r) (member_below a.a a.q (r + a.q)) a.map.now c.loop-r.map c.set_bit.new.map
+    c.loop-r.invariant.3 c.set_bit.ensures (λ s. members_next a.a a.q r s pos c.loop-r.invariant.0))
+    (λ s. members-last a.a a.q a.m (r + a.q) s next (omega arith) (omega arith))
