@@ -1,35 +1,34 @@
 -- A text that reads as a problem is the input text of that problem.
-use mathlib.Core.Path.{◌≡◌, refl, sym, ap, ◌∙◌}
+use mathlib.Core.Path.{◌≡◌, refl, sym, ap, subst, ◌∙◌}
 use mathlib.Core.Bool.{not}
 use mathlib.Core.List.{List, [], ◌∷◌, ◌++◌, append_assoc, append-nil}
-use mathlib.Core.Option
-use mathlib.Core.Option.{Option, none, some}
-use Prim.Native.Nat.{ℕ, zero, suc, ◌+◌, ◌-◌, ◌*◌, ◌<◌}
+use Rattle.std.specs.Prelude.{Option, Some, None, unwrap_or, Ok}
+use Prim.Native.Nat.{ℕ, zero, suc, ◌+◌, ◌-◌, ◌*◌, ◌<◌, ◌≤◌}
 use native.Mathlib.Omega.{arith}
 use borrow.Author.Tests.{eqb-true, eqb-false, ltb-false, not-false}
 use lib.Dec.{eqb, ltb}
-use lib.IntN.{ℤ, pos}
+use lib.IntN.{pos}
 use lib.ListN.{length, get_or, take, drop, replicate, drop_of_length-le}
 use lib.Seq.{take_at}
 use Rattle.columns.specs.Column.{column, signed_column}
 use Rattle.refusal.specs.declared.Refusal.TheVariants.{Form, NoCoefficient, TooManyCoefficients}
-use Rattle.refusal.specs.Rules.{Verdict, passes, refuses, tried, rule2, rule3}
-use Rattle.refusal.proofs.Rules.{rule_passes, tried-first}
-use Rattle.text.specs.declared.Read.TheVariants.{Given, Refused}
+use Rattle.refusal.specs.Rules.{passes, tried, rule2, rule3}
+use Rattle.refusal.proofs.Rules.{rule_passes, tried-first, value_passes}
 use Rattle.text.specs.declared.Problem.{Problem}
 use Rattle.text.specs.Text.{unsigned_value, signed_value}
 use Rattle.text.specs.Form.{has_value, ends_line, ends_text, first_line_rules, p_of, n_of, count_of, coefficient_rules, coefficients_at}
-use Rattle.text.specs.Form.{verdict_at, end_at, problem_by, problem_at, problem_of}
+use Rattle.text.specs.Form.{row_of, verdict_at, end_at, told_at, problem_at, problem_of}
 use Rattle.text.specs.Input.{coefficient_lines, input_text}
 use Rattle.text.proofs.Placed.{unsigned-column-is, signed-column-is, end_is}
 use Rattle.text.proofs.Rows.{coefficients_length}
+use Rattle.text.proofs.FirstLine.{told_end}
 use Rattle.text.proofs.Input.{AllInRange, Readable, input_append}
 
 -- Rules that pass
 
-value_is : {A : Type 0} (o : Option A) (d : A) (place : ℕ) → has_value o place ≡ passes → o ≡ some (Option.get_or o d)
-value_is (some x) d place e = refl
-value_is none d place e = let z : ◌≡◌ {A = ℕ} 0 1 = cc in absurd (omega arith)
+value_is : {A : Type 0} (o : Option A) (d : A) (place : ℕ) → has_value o place ≡ passes → o ≡ Some (unwrap_or o d)
+value_is (Some x) d place e = refl
+value_is None d place e = let z : ◌≡◌ {A = ℕ} 0 1 = cc in absurd (omega arith)
 
 line_ends : (text : List ℕ) (place : ℕ) → ends_line text place ≡ passes → get_or text place 0 ≡ 10
 line_ends text place e =
@@ -48,7 +47,7 @@ module _ (text : List ℕ) where
   lines_are (suc c) at e =
       let (v, f) = tried-first (has_value (signed_value text at 20) at) (ends_line text (at + 20) ∷ coefficient_rules text (at + 21) c) e in
       let (l, g) = tried-first (ends_line text (at + 20)) (coefficient_rules text (at + 21) c) f in
-      let z = Option.get_or (signed_value text at 20) (pos 0) in
+      let z = unwrap_or (signed_value text at 20) (pos 0) in
       let (d, r) = signed-column-is text at 20 z (value_is (signed_value text at 20) (pos 0) at v) in
       let n = end_is text (at + 20) (line_ends text (at + 20) l) in
       let (h, s) = lines_are c (at + 21) g in
@@ -143,62 +142,37 @@ module _ (text : List ℕ) where
 
 -- What an answer says
 
-module _ (text : List ℕ) (at : ℕ) (P : Problem) (p n count end : ℕ) (given : P.read ≡ Given p n count end) where
-  record Parts (v : Verdict) : Type 0 where
-    passed : v ≡ passes
-    p_is : p_of text at ≡ p
-    n_is : n_of text at ≡ n
-    end-at : end_at text at ≡ end
-    coefficients-are : coefficients_at text (at + 34) (count_of text at) ≡ take count P.coefficients
+-- what stands from the place on is the input text of a problem that the reader is to take
+abbrev IsInputAt : List ℕ → ℕ → Problem → Type 0
+IsInputAt text at P =
+    (drop at text ≡ input_text P.p P.n (take P.count P.coefficients) ++ drop P.end text) × Readable P.p P.n (take P.count P.coefficients)
 
-  parts : (v : Verdict) → P ≡ problem_by v text at → Parts v
-  unfolding problem_by
-  parts passes e =
-      let f : P.read ≡ Given (p_of text at) (n_of text at) (count_of text at) (end_at text at) = ap (λ (Q : Problem). Q.read) e in
-      let k : count_of text at ≡ count = cc in
-      let cs = coefficients_at text (at + 34) (count_of text at) in
-      let m : length cs ≡ count = coefficients_length text (at + 34) (count_of text at) ∙ k in
-      record {
-        passed = refl;
-        p_is = cc;
-        n_is = cc;
-        end-at = cc;
-        coefficients-are = sym (ap (λ (Q : Problem). take count Q.coefficients) e ∙ take_at cs (replicate (65 - length cs) (pos 0))
-            count m);
-      }
-  parts (refuses r) e =
-      let f : P.read ≡ Refused r = ap (λ (Q : Problem). Q.read) e in
-      let z : ◌≡◌ {A = ℕ} 0 1 = cc in
-      absurd (omega arith)
+told-is-input : (text : List ℕ) (at : ℕ) → verdict_at text at ≡ passes → IsInputAt text at (told_at text at)
+unfolding told_at
+told-is-input text at v =
+    let cs = coefficients_at text (at + 34) (count_of text at) in
+    let row : take (count_of text at) (row_of cs) ≡ cs =
+    take_at cs (replicate (65 - length cs) (pos 0)) (count_of text at) (coefficients_length text (at + 34) (count_of text at)) in
+    (rw row (passed-is-input text at v), rw row (passed-is-readable text at v))
 
--- what is read at a place is the input text of the problem
-pub given_at_is_input : (text : List ℕ) (at p n count end : ℕ) → (problem_at text at).read ≡ Given p n count end
-    → (drop at text ≡ input_text p n (take count (problem_at text at).coefficients) ++ drop end text)
-    × Readable p n (take count (problem_at text at).coefficients)
+pub given_at_is_input : (text : List ℕ) (at : ℕ) (P : Problem) → problem_at text at ≡ Ok P
+    → (drop at text ≡ input_text P.p P.n (take P.count P.coefficients) ++ drop P.end text) × Readable P.p P.n (take P.count P.coefficients)
 unfolding problem_at
-given_at_is_input text at p n count end given =
-    let Q = parts text at (problem_at text at) p n count end given (verdict_at text at) refl in (
-      rw (← Q.coefficients-are, ← Q.p_is, ← Q.n_is, ← Q.end-at) (passed-is-input text at Q.passed),
-      rw (← Q.coefficients-are, ← Q.p_is, ← Q.n_is) (passed-is-readable text at Q.passed),
-    )
-
-input_same : (p q n m : ℕ) (cs ds : List ℤ) → p ≡ q → n ≡ m → cs ≡ ds → input_text p n cs ≡ input_text q m ds
-input_same p q n m cs ds e f g = rw (e, f, g)
+given_at_is_input text at P given =
+    let (v, e) = value_passes (verdict_at text at) (told_at text at) P given in
+    subst (IsInputAt text at) (sym e) (told-is-input text at v)
 
 -- a text that reads as a problem is the input text of that problem
-pub given_is_input : (text : List ℕ) (p n count end : ℕ) → (problem_of text).read ≡ Given p n count end
-    → (text ≡ input_text p n (take count (problem_of text).coefficients)) × Readable p n (take count (problem_of text).coefficients)
+pub given_is_input : (text : List ℕ) (P : Problem) → problem_of text ≡ Ok P
+    → (text ≡ input_text P.p P.n (take P.count P.coefficients)) × Readable P.p P.n (take P.count P.coefficients)
 unfolding problem_of
-given_is_input text p n count end given =
-    let v = tried (verdict_at text 0 ∷ ends_text text (end_at text 0) ∷ []) in
-    let Q = parts text 0 (problem_of text) p n count end given v refl in
-    let (a, b) = tried-first (verdict_at text 0) (ends_text text (end_at text 0) ∷ []) Q.passed in
+given_is_input text P given =
+    let (v, e) = value_passes (tried (verdict_at text 0 ∷ ends_text text (end_at text 0) ∷ [])) (told_at text 0) P given in
+    let (a, b) = tried-first (verdict_at text 0) (ends_text text (end_at text 0) ∷ []) v in
     let (c, d) = tried-first (ends_text text (end_at text 0)) [] b in
-    let l = ltb-false (end_at text 0) (length text) (rule_passes (ltb (end_at text 0) (length text)) (Form (end_at text 0)) c) in
-    let cs = coefficients_at text 34 (count_of text 0) in
-    let input = input_text (p_of text 0) (n_of text 0) cs in
-    let whole : text ≡ input = passed-is-input text 0 a ∙ ap (λ (k : List ℕ). input ++ k) (drop_of_length-le text l) ∙ append-nil input in (
-      whole ∙ input_same (p_of text 0) p (n_of text 0) n cs (take count (problem_of text).coefficients) Q.p_is Q.n_is
-          Q.coefficients-are,
-      rw (← Q.coefficients-are, ← Q.p_is, ← Q.n_is) (passed-is-readable text 0 a),
-    )
+    let l : length text ≤ end_at text 0 =
+    ltb-false (end_at text 0) (length text) (rule_passes (ltb (end_at text 0) (length text)) (Form (end_at text 0)) c) in
+    let (whole, R) = subst (IsInputAt text 0) (sym e) (told-is-input text 0 a) in
+    let last : drop P.end text ≡ [] = drop_of_length-le text (omega (arith, told_end text 0 P (sym e))) in
+    let input = input_text P.p P.n (take P.count P.coefficients) in
+    (whole ∙ ap (λ (k : List ℕ). input ++ k) last ∙ append-nil input, R)

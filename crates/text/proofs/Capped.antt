@@ -1,71 +1,67 @@
--- A size above 2^63 stays above it, so nothing is lost where it is kept as a fault.
+-- A size above 64 bits stays above them, so nothing is lost where it is kept as a fault.
 use mathlib.Core.Path.{◌≡◌, refl, sym, ap, ◌∙◌}
 use mathlib.Core.Bool.{Bool, true, false}
-use mathlib.Core.List.{List, [], ◌∷◌, ◌++◌}
-use Prim.Native.Nat.{ℕ, ◌+◌, ◌*◌, ◌≤◌, ◌<◌}
+use mathlib.Core.List.{List, [], ◌∷◌, ◌++◌, append-nil, append_assoc}
+use Prim.Native.Nat.{ℕ, ◌+◌, ◌*◌, ◌<◌}
+use Rattle.std.specs.Prelude.{Option, Some, None}
 use native.Mathlib.Omega.{arith}
-use borrow.Author.Tests.{ne_eqb, le-leb, lt-leb, leb-false}
+use borrow.Author.Tests.{ne_eqb, lt-leb, leb-false}
 use lib.Dec.{leb}
+use lib.ListN.{length, get_or, take, drop, take-append-drop}
+use lib.Seq.{take-suc}
+use native.Mathlib.Numerals.{add-one}
 use Rattle.text.specs.declared.column.Part.{Part}
-use Rattle.text.specs.declared.column.Part.TheVariants.{Blanks, Minus, Number, Fault}
-use Rattle.text.specs.Reading.{after_blank, after_minus, after_digit, step, scan}
+use Rattle.text.specs.declared.column.Part.TheVariants.{Blanks, Minus, Number}
+use Rattle.text.specs.Reading.{after_digit, step, step_on, scan}
 use Rattle.text.specs.inner.Capped.{capped}
 use Rattle.text.proofs.Steps.{Kind, a_blank, a_minus, a_digit, a_fault, kind, step-blank, step-minus, step_of_digit, scan_next}
 
-pub capped_small : (m : Bool) (x : ℕ) → x ≤ 9223372036854775808 → capped (Number m x) ≡ Number m x
-capped_small m x h = rw (le-leb x 9223372036854775808 h)
-
-pub capped_large : (m : Bool) (x : ℕ) → 9223372036854775808 < x → capped (Number m x) ≡ Fault
-capped_large m x h = rw (lt-leb x 9223372036854775808 h)
-
-capped-blank : (p : Part) → capped (after_blank (capped p)) ≡ capped (after_blank p)
-capped-blank Blanks = refl
-capped-blank Minus = refl
-capped-blank (Number m x) = go (leb x 9223372036854775808) refl
-  where
-    go : (t : Bool) → leb x 9223372036854775808 ≡ t → capped (after_blank (capped (Number m x))) ≡ Fault
-    go true e = rw e
-    go false e = rw e
-capped-blank Fault = refl
-
-capped-minus : (p : Part) → capped (after_minus (capped p)) ≡ capped (after_minus p)
-capped-minus Blanks = refl
-capped-minus Minus = refl
-capped-minus (Number m x) = go (leb x 9223372036854775808) refl
-  where
-    go : (t : Bool) → leb x 9223372036854775808 ≡ t → capped (after_minus (capped (Number m x))) ≡ Fault
-    go true e = rw e
-    go false e = rw e
-capped-minus Fault = refl
-
 -- a digit more of a size that is not 0
-pub digit_large : (m : Bool) (x d : ℕ) → 0 < x → 9223372036854775808 < x * 10 + d → capped (after_digit (Number m x) d) ≡ Fault
-digit_large m x d h l = rw (ne_eqb x 0 (λ e. omega arith), lt-leb (x * 10 + d) 9223372036854775808 l)
+pub digit_large : (m : Bool) (x d : ℕ) → 0 < x → 18446744073709551615 < x * 10 + d → capped (after_digit (Number m x) d) ≡ None
+digit_large m x d h l = rw (ne_eqb x 0 (λ e. omega arith), lt-leb (x * 10 + d) 18446744073709551615 l)
 
-capped_digit : (p : Part) (d : ℕ) → capped (after_digit (capped p) d) ≡ capped (after_digit p d)
-capped_digit Blanks d = refl
-capped_digit Minus d = refl
-capped_digit (Number m x) d = go (leb x 9223372036854775808) refl
+-- one byte more of a size that is kept as a fault
+large_step : (m : Bool) (x b : ℕ) → 18446744073709551615 < x → capped (step (Number m x) b) ≡ None
+large_step m x b h = go (kind b)
   where
-    go : (t : Bool) → leb x 9223372036854775808 ≡ t → capped (after_digit (capped (Number m x)) d) ≡ capped (after_digit (Number m x) d)
-    go true e = rw e
-    go false e =
-        let h : 9223372036854775808 < x = leb-false x 9223372036854775808 e in
-        ap (λ (p : Part). capped (after_digit p d)) (capped_large m x h) ∙ sym (digit_large m x d (omega arith) (omega arith))
-capped_digit Fault d = refl
+    go : Kind b → capped (step (Number m x) b) ≡ None
+    go (a_blank e) = rw (step-blank (Number m x) b e)
+    go (a_minus e) = rw (step-minus (Number m x) b e)
+    go (a_digit d l e) = rw (step_of_digit (Number m x) b d l e) (digit_large m x d (omega arith) (omega arith))
+    go (a_fault f) = rw (f (Number m x))
 
 -- one byte more
-pub capped-step : (p : Part) (b : ℕ) → capped (step (capped p) b) ≡ capped (step p b)
-capped-step p b = go (kind b)
+pub capped-step : (o : Option Part) (b : ℕ) → capped (step_on (capped o) b) ≡ capped (step_on o b)
+capped-step None b = refl
+capped-step (Some Blanks) b = refl
+capped-step (Some Minus) b = refl
+capped-step (Some (Number m x)) b = go (leb x 18446744073709551615) refl
   where
-    go : Kind b → capped (step (capped p) b) ≡ capped (step p b)
-    go (a_blank e) = rw (step-blank (capped p) b e, step-blank p b e) (capped-blank p)
-    go (a_minus e) = rw (step-minus (capped p) b e, step-minus p b e) (capped-minus p)
-    go (a_digit d h e) = rw (step_of_digit (capped p) b d h e, step_of_digit p b d h e) (capped_digit p d)
-    go (a_fault f) = rw (f (capped p), f p)
+    go : (t : Bool) → leb x 18446744073709551615 ≡ t → capped (step_on (capped (Some (Number m x))) b) ≡ capped (step (Number m x) b)
+    go true e = rw e
+    go false e =
+        let h : 18446744073709551615 < x = leb-false x 18446744073709551615 e in
+        rw (e, large_step m x b h)
 
 -- a column that is scanned byte by byte with capped sizes
-pub capped_next : (bytes : List ℕ) (b : ℕ) (p r : Part) → p ≡ capped (scan bytes) → r ≡ capped (step p b)
+pub capped_next : (bytes : List ℕ) (b : ℕ) (o r : Option Part) → o ≡ capped (scan bytes) → r ≡ capped (step_on o b)
     → r ≡ capped (scan (bytes ++ b ∷ []))
-capped_next bytes b p r e f =
-    f ∙ ap (λ (q : Part). capped (step q b)) e ∙ capped-step (scan bytes) b ∙ ap capped (sym (scan_next bytes b))
+capped_next bytes b o r e f =
+    f ∙ ap (λ (q : Option Part). capped (step_on q b)) e ∙ capped-step (scan bytes) b ∙ ap capped (sym (scan_next bytes b))
+
+-- a fault stays one, whatever follows
+pub fault_stays : (bytes rest : List ℕ) → None ≡ capped (scan bytes) → None ≡ capped (scan (bytes ++ rest))
+fault_stays bytes [] e = e ∙ ap (λ (l : List ℕ). capped (scan l)) (sym (append-nil bytes))
+fault_stays bytes (b ∷ rest) e =
+    fault_stays (bytes ++ b ∷ []) rest (capped_next bytes b None None e refl)
+    ∙ ap (λ (l : List ℕ). capped (scan l)) (append_assoc bytes (b ∷ []) rest)
+
+-- a column read byte by byte: what its first i + 1 bytes make, and the whole where these have a fault
+module _ (l : List ℕ) (i : ℕ) (p : Part) (r : Option Part) (here : i < length l) (so_far : Some p ≡ capped (scan (take i l)))
+    (next : r ≡ capped (step p (get_or l i 0))) where
+  pub one_more : r ≡ capped (scan (take (i + 1) l))
+  one_more = rw (add-one i, take-suc l i 0 here) (capped_next (take i l) (get_or l i 0) (Some p) r so_far next)
+
+  pub stopped : None ≡ r → None ≡ capped (scan l)
+  stopped e = fault_stays (take (i + 1) l) (drop (i + 1) l) (e ∙ one_more)
+      ∙ ap (λ (m : List ℕ). capped (scan m)) (take-append-drop (i + 1) l)

@@ -2,7 +2,7 @@
 -- tell it, since "The longest has 1,399 bytes".
 use mathlib.Core.Path.{◌≡◌, refl, sym, ap, ap₂, ◌∙◌}
 use mathlib.Core.List.{List, [], ◌∷◌, ◌++◌}
-use mathlib.Core.Option.{Option, get_or}
+use Rattle.std.specs.Prelude.{Option, unwrap_or}
 use Prim.Native.Nat.{ℕ, ◌+◌, ◌*◌, ◌≤◌, ◌<◌}
 use native.Mathlib.Omega.{arith}
 use native.Mathlib.Decide.{dec_le}
@@ -11,11 +11,11 @@ use lib.ListN.{length, take}
 use lib.Seq.{take_at}
 use Rattle.refusal.specs.declared.Refusal.{Refusal}
 use Rattle.refusal.specs.declared.Refusal.TheVariants.{TooManyCoefficients}
-use Rattle.refusal.specs.Rules.{Verdict, passes, refuses, tried, rule2, rule3}
+use Rattle.refusal.specs.Rules.{Verdict, passes, refuses, tried, value_or, rule2, rule3}
 use Rattle.refusal.proofs.Rules.{rule2_passes, rule3_refuses}
-use Rattle.text.specs.declared.Read.TheVariants.{Given}
-use Rattle.text.specs.Form.{has_value, ends_text, first_line_rules, p_of, n_of, count_of, end_at, coefficient_rules, coefficients_at, row_of}
-use Rattle.text.specs.Form.{problem_or, verdict_at, problem_by, problem_at, problem_of}
+use Rattle.text.specs.Form.{has_value, ends_text, first_line_rules, p_of, n_of, count_of, end_at, coefficient_rules, coefficients_at}
+use Rattle.text.specs.Form.{row_of, verdict_at, told_at, problem_at, problem_of}
+use Rattle.text.proofs.Rows.{problem}
 use Rattle.text.proofs.Prefix.{unsigned-same, line-end-same, end_same, lines_same, coefficients-same}
 
 -- more than 65 coefficients are refused, whatever stands in their lines, by rule 1 on the first line or by rule 3
@@ -31,7 +31,7 @@ four : {a b c d a' b' c' d' : Verdict} → a ≡ a' → b ≡ b' → c ≡ c' �
 four e f g h = rw (e, f, g, h)
 
 same_problem : {v w : Verdict} {p q n k c d e f : ℕ} {cs ds : List ℤ} → v ≡ w → p ≡ q → n ≡ k → c ≡ d → e ≡ f → cs ≡ ds
-    → problem_or v (Given p n c e) (row_of cs) ≡ problem_or w (Given q k d f) (row_of ds)
+    → value_or v (problem p n c e (row_of cs)) ≡ value_or w (problem q k d f (row_of ds))
 same_problem sv sp sn sc se sl = rw (sv, sp, sn, sc, se, sl)
 
 -- The first line is within the first m bytes
@@ -47,15 +47,15 @@ module _ (m : ℕ) (text : List ℕ) (line : 34 ≤ m) where
 
   p-same : p_of (take m text) 0 ≡ p_of text 0
   unfolding p_of
-  p-same = ap (λ (o : Option ℕ). get_or o 0) (unsigned-same m text 0 11 (omega arith))
+  p-same = ap (λ (o : Option ℕ). unwrap_or o 0) (unsigned-same m text 0 11 (omega arith))
 
   n-same : n_of (take m text) 0 ≡ n_of text 0
   unfolding n_of
-  n-same = ap (λ (o : Option ℕ). get_or o 0) (unsigned-same m text 11 11 (omega arith))
+  n-same = ap (λ (o : Option ℕ). unwrap_or o 0) (unsigned-same m text 11 11 (omega arith))
 
   pub count_same : count_of (take m text) 0 ≡ count_of text 0
   unfolding count_of
-  count_same = ap (λ (o : Option ℕ). get_or o 0) (unsigned-same m text 22 11 (omega arith))
+  count_same = ap (λ (o : Option ℕ). unwrap_or o 0) (unsigned-same m text 22 11 (omega arith))
 
   after_same : end_at (take m text) 0 ≡ end_at text 0
   unfolding end_at
@@ -73,8 +73,8 @@ module _ (m : ℕ) (text : List ℕ) (line : 34 ≤ m) where
     row_same : coefficients_at (take m text) 34 (count_of (take m text) 0) ≡ coefficients_at text 34 (count_of text 0)
     row_same = ap (coefficients_at (take m text) 34) count_same ∙ coefficients-same m text (count_of text 0) 34 lines
 
-    by-same : (v w : Verdict) → v ≡ w → problem_by v (take m text) 0 ≡ problem_by w text 0
-    unfolding problem_by
+    by-same : (v w : Verdict) → v ≡ w → value_or v (told_at (take m text) 0) ≡ value_or w (told_at text 0)
+    unfolding told_at
     by-same v w e = same_problem e p-same n-same count_same after_same row_same
 
     pub told_same : problem_at (take m text) 0 ≡ problem_at text 0
@@ -107,8 +107,8 @@ module _ (m : ℕ) (text : List ℕ) (line : 34 ≤ m) where
     unfolding verdict_at
     verdict-whole = anyway.1 (coefficient_rules text 34 (count_of text 0))
 
-    refused-same : (v w : Verdict) → v ≡ refuses anyway.0 → w ≡ refuses anyway.0 → problem_by v (take m text) 0 ≡ problem_by w text 0
-    unfolding problem_by
+    refused-same : (v w : Verdict) → v ≡ refuses anyway.0 → w ≡ refuses anyway.0
+        → value_or v (told_at (take m text) 0) ≡ value_or w (told_at text 0)
     refused-same v w e f = rw (e, f)
 
     many-told : problem_at (take m text) 0 ≡ problem_at text 0

@@ -3,6 +3,7 @@ use mathlib.Core.Path.{◌≡◌, refl, sym, ap, ap₂, ◌∙◌}
 use mathlib.Core.Bool.{Bool, true, false}
 use mathlib.Core.List.{List, [], ◌∷◌, ◌++◌}
 use Prim.Native.Nat.{ℕ, zero, suc, ◌+◌, ◌*◌, ◌≤◌, ◌<◌}
+use Rattle.std.specs.Prelude.{Option, Some, None}
 use native.Mathlib.Omega.{arith}
 use borrow.Author.Tests.{eqb-false}
 use lib.Dec.{eqb}
@@ -11,8 +12,8 @@ use lib.Seq.{take-suc, take-length}
 use Rattle.columns.specs.Column.{blank, column, sign, minus_column}
 use Rattle.columns.proofs.Digits.{column_short, column_long, minus_short, minus_long}
 use Rattle.text.specs.declared.column.Part.{Part}
-use Rattle.text.specs.declared.column.Part.TheVariants.{Blanks, Minus, Number, Fault}
-use Rattle.text.specs.Reading.{after_blank, after_minus, after_digit, step, scan}
+use Rattle.text.specs.declared.column.Part.TheVariants.{Blanks, Minus, Number}
+use Rattle.text.specs.Reading.{after_blank, after_minus, after_digit, step, step_on, scan}
 use Rattle.text.proofs.Steps.{Kind, a_blank, a_minus, a_digit, a_fault, kind, step-blank, step-minus, step_of_digit, scan_next}
 
 pub replicate_next : (w a : ℕ) → replicate w a ++ a ∷ [] ≡ replicate (suc w) a
@@ -21,20 +22,20 @@ replicate_next (suc w) a = ap (λ (l : List ℕ). a ∷ l) (replicate_next w a)
 
 -- What w bytes are that make p
 
-abbrev pub Holds : Part → ℕ → List ℕ → Type 0
-Holds Blanks w l = l ≡ replicate w blank
-Holds Minus w l = l ≡ sign w
-Holds (Number false x) w l = l ≡ column w x
-Holds (Number true x) w l = (0 < x) × (l ≡ minus_column w x)
-Holds Fault w l = Unit {0}
+abbrev pub Holds : Option Part → ℕ → List ℕ → Type 0
+Holds None w l = Unit {0}
+Holds (Some Blanks) w l = l ≡ replicate w blank
+Holds (Some Minus) w l = l ≡ sign w
+Holds (Some (Number false x)) w l = l ≡ column w x
+Holds (Some (Number true x)) w l = (0 < x) × (l ≡ minus_column w x)
 
-number_of_digit : (m : Bool) (x : ℕ) (d w : ℕ) (l : List ℕ) → d ≤ 9 → (x ≡ 0 → ⊥) → Holds (Number m x) w l
-    → Holds (Number m (x * 10 + d)) (suc w) (l ++ (d + 48) ∷ [])
+number_of_digit : (m : Bool) (x : ℕ) (d w : ℕ) (l : List ℕ) → d ≤ 9 → (x ≡ 0 → ⊥) → Holds (Some (Number m x)) w l
+    → Holds (Some (Number m (x * 10 + d))) (suc w) (l ++ (d + 48) ∷ [])
 number_of_digit false x d w l h ne e = ap (λ (k : List ℕ). k ++ (d + 48) ∷ []) e ∙ sym (column_long w x d h (omega arith))
 number_of_digit true x d w l h ne e =
     (omega arith, ap (λ (k : List ℕ). k ++ (d + 48) ∷ []) e.1 ∙ sym (minus_long w x d h (omega arith)))
 
-holds_digit : (p : Part) (d w : ℕ) (l : List ℕ) → d ≤ 9 → Holds p w l → Holds (after_digit p d) (suc w) (l ++ (d + 48) ∷ [])
+holds_digit : (p : Part) (d w : ℕ) (l : List ℕ) → d ≤ 9 → Holds (Some p) w l → Holds (after_digit p d) (suc w) (l ++ (d + 48) ∷ [])
 holds_digit Blanks d w l h e = ap (λ (k : List ℕ). k ++ (d + 48) ∷ []) e ∙ sym (column_short w d h)
 holds_digit Minus d w l h e = go (eqb d 0) refl
   where
@@ -48,23 +49,21 @@ holds_digit (Number m x) d w l h e = go (eqb x 0) refl
     go : (t : Bool) → eqb x 0 ≡ t → Holds (after_digit (Number m x) d) (suc w) (l ++ (d + 48) ∷ [])
     go true q = rw q tt
     go false q = rw q (number_of_digit m x d w l h (eqb-false x 0 q) e)
-holds_digit Fault d w l h e = tt
 
-holds_step : (p : Part) (b w : ℕ) (l : List ℕ) → Holds p w l → Holds (step p b) (suc w) (l ++ b ∷ [])
+holds_step : (o : Option Part) (b w : ℕ) (l : List ℕ) → Holds o w l → Holds (step_on o b) (suc w) (l ++ b ∷ [])
 unfolding sign
-holds_step p b w l h = go (kind b)
+holds_step None b w l h = tt
+holds_step (Some p) b w l h = go (kind b)
   where
-    blanks : (p : Part) → b ≡ 32 → Holds p w l → Holds (after_blank p) (suc w) (l ++ b ∷ [])
+    blanks : (p : Part) → b ≡ 32 → Holds (Some p) w l → Holds (after_blank p) (suc w) (l ++ b ∷ [])
     blanks Blanks e h = ap₂ (λ k x. k ++ x ∷ []) h e ∙ replicate_next w blank
     blanks Minus e h = tt
     blanks (Number m x) e h = tt
-    blanks Fault e h = tt
 
-    minuses : (p : Part) → b ≡ 45 → Holds p w l → Holds (after_minus p) (suc w) (l ++ b ∷ [])
+    minuses : (p : Part) → b ≡ 45 → Holds (Some p) w l → Holds (after_minus p) (suc w) (l ++ b ∷ [])
     minuses Blanks e h = ap₂ (λ k x. k ++ x ∷ []) h e
     minuses Minus e h = tt
     minuses (Number m x) e h = tt
-    minuses Fault e h = tt
 
     go : Kind b → Holds (step p b) (suc w) (l ++ b ∷ [])
     go (a_blank e) = rw (step-blank p b e) (blanks p e h)

@@ -1,14 +1,13 @@
 -- The input text of a problem reads as that problem.
 use mathlib.Core.Path.{◌≡◌, refl, sym, ap, ap₂, ◌∙◌}
 use mathlib.Core.List.{List, [], ◌∷◌, ◌++◌, append_assoc, append-nil}
-use mathlib.Core.Option.{Option, get_or}
+use Rattle.std.specs.Prelude.{Option, unwrap_or, Ok}
 use Prim.Native.Nat.{ℕ, suc, ◌+◌, ◌*◌, ◌≤◌, ◌<◌}
 use native.Mathlib.Omega.{arith}
 use lib.IntN.{ℤ, pos, negsuc}
 use lib.ListN.{length, drop, length-drop}
 use Rattle.columns.specs.Column.{column, signed_column, FitsColumn}
 use Rattle.refusal.specs.Rules.{passes, tried}
-use Rattle.text.specs.declared.Read.TheVariants.{Given}
 use Rattle.text.specs.declared.Problem.{Problem}
 use Rattle.text.specs.Form.{coefficient_rules, coefficients_at, row_of}
 use Rattle.text.specs.Form.{problem_at, problem_of}
@@ -54,7 +53,7 @@ module _ (text : List ℕ) where
       let q : at + 21 * suc (length cs) ≡ at + 21 + 21 * length cs = omega arith in
       record {
         passed = line-passes text at (length cs) z v h.0 ∙ R.passed;
-        values = ap₂ (λ (y : ℤ) (l : List ℤ). y ∷ l) (ap (λ (o : Option ℤ). get_or o (pos 0)) v) R.values;
+        values = ap₂ (λ (y : ℤ) (l : List ℤ). y ∷ l) (ap (λ (o : Option ℤ). unwrap_or o (pos 0)) v) R.values;
         left = ap (λ (k : ℕ). drop k text) q ∙ R.left;
       }
 
@@ -72,7 +71,7 @@ pub record Readable (p n : ℕ) (cs : List ℤ) : Type 0 where
   pub in_range : AllInRange cs
 
 abbrev pub problem : ℕ → ℕ → List ℤ → ℕ → Problem
-problem p n cs end = record { read = Given p n (length cs) end; coefficients = row_of cs }
+problem p n cs end = record { p = p; n = n; count = length cs; end = end; coefficients = row_of cs }
 
 module _ (text : List ℕ) (at p n : ℕ) (cs : List ℤ) (rest : List ℕ) (U : Readable p n cs) (here : drop at text ≡ input_text p n cs ++ rest)
   where
@@ -121,7 +120,7 @@ module _ (text : List ℕ) (at p n : ℕ) (cs : List ℤ) (rest : List ℕ) (U :
     lines : LinesRead text (at + 34) cs rest
     lines = lines-read text cs (at + 34) rest U.in_range from-lines
 
-    pub input-reads-at : problem_at text at ≡ problem p n cs (at + 34 + 21 * length cs)
+    pub input-reads-at : problem_at text at ≡ Ok (problem p n cs (at + 34 + 21 * length cs))
     input-reads-at =
         let some-are : length cs ≡ 0 → ⊥ = λ (e : length cs ≡ 0). omega (arith, U.some_coefficient) in
         sym (problem-read text at p n (length cs) first-line some-are U.few_coefficients)
@@ -131,11 +130,11 @@ module _ (text : List ℕ) (at p n : ℕ) (cs : List ℤ) (rest : List ℕ) (U :
     input-left = lines.left
 
 -- the whole text
-pub input_is_read : (p n : ℕ) (cs : List ℤ) → Readable p n cs → problem_of (input_text p n cs) ≡ problem p n cs (34 + 21 * length cs)
+pub input_is_read : (p n : ℕ) (cs : List ℤ) → Readable p n cs → problem_of (input_text p n cs) ≡ Ok (problem p n cs (34 + 21 * length cs))
 input_is_read p n cs U =
     let text = input_text p n cs in
     let e : drop 0 text ≡ text ++ [] = sym (append-nil text) in
-    let r : problem_at text 0 ≡ problem p n cs (34 + 21 * length cs) = input-reads-at text 0 p n cs [] U e in
+    let r : problem_at text 0 ≡ Ok (problem p n cs (34 + 21 * length cs)) = input-reads-at text 0 p n cs [] U e in
     let l : length (drop (34 + 21 * length cs) text) ≡ 0 = ap length (input-left text 0 p n cs [] U e) in
     let k = length-drop (34 + 21 * length cs) text in
-    sym (whole-given text (problem p n cs (34 + 21 * length cs)) (sym r) p n (length cs) (34 + 21 * length cs) refl (omega arith))
+    sym (whole-given text (problem p n cs (34 + 21 * length cs)) r (omega arith))

@@ -5,9 +5,10 @@ use Prim.Native.Nat.{ℕ, ◌+◌, ◌*◌, ◌≤◌}
 use native.Mathlib.Omega.{arith}
 use lib.IntN.{ℤ}
 use lib.ListN.{length, length-append, take}
+use Rattle.std.specs.Prelude.{Ok}
 use Rattle.columns.specs.Column.{column, signed_column}
 use Rattle.columns.proofs.Length.{column-length, signed-length}
-use Rattle.text.specs.declared.Read.TheVariants.{Given}
+use Rattle.text.specs.declared.Problem.{Problem}
 use Rattle.text.specs.Form.{problem_of}
 use Rattle.text.specs.Input.{coefficient_lines, input_text}
 use Rattle.text.proofs.Accepted.{given_is_input}
@@ -35,11 +36,10 @@ input_length p n cs =
     )
 
 -- no text that is read is longer
-pub longest : (text : List ℕ) (p n count end : ℕ) → (problem_of text).read ≡ Given p n count end → length text ≤ 1399
-longest text p n count end e =
-    let (whole, R) = given_is_input text p n count end e in
-    let cs = take count (problem_of text).coefficients in
-    omega (arith, ap length whole, input_length p n cs, R.few_coefficients)
+pub longest : (text : List ℕ) (P : Problem) → problem_of text ≡ Ok P → length text ≤ 1399
+longest text P e =
+    let (whole, R) = given_is_input text P e in
+    omega (arith, ap length whole, input_length P.p P.n (take P.count P.coefficients), R.few_coefficients)
 
 -- and those of 65 coefficients have as many
 pub longest_reached : (p n : ℕ) (cs : List ℤ) → length cs ≡ 65 → length (input_text p n cs) ≡ 1399

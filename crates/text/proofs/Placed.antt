@@ -2,7 +2,7 @@
 use mathlib.Core.Path.{◌≡◌, refl, sym, ap, ap₂, ◌∙◌}
 use mathlib.Core.Bool.{Bool, true, false}
 use mathlib.Core.List.{List, [], ◌∷◌, ◌++◌}
-use mathlib.Core.Option.{none, some}
+use Rattle.std.specs.Prelude.{Some, None}
 use Prim.Native.Nat.{ℕ, ◌+◌, ◌-◌, ◌^◌, ◌≤◌, ◌<◌}
 use native.Mathlib.Decide.{dec_le}
 use native.Mathlib.Numerals.{add-one}
@@ -13,7 +13,6 @@ use lib.IntN.{ℤ}
 use lib.ListN.{length, get_or, take, drop, length-append, length-drop, take-append-drop, get_or-eq_default}
 use lib.Seq.{length-take-le, drop-drop, drop-cons, take_at, drop_at, get_or-drop}
 use Rattle.columns.specs.Column.{column, signed_column, FitsColumn}
-use Rattle.text.specs.declared.column.Part.TheVariants.{Fault}
 use Rattle.text.specs.Reading.{scan, unsigned_of, signed_of}
 use Rattle.text.specs.Text.{column_at, unsigned_value, signed_value}
 use Rattle.columns.proofs.Length.{column-length, signed-length}
@@ -42,19 +41,19 @@ module _ (text : List ℕ) (at : ℕ) where
       column_whole text at w r ∙ ap scan (ap (take w) e ∙ take_at l rest w n)
 
   pub unsigned-placed : (w x : ℕ) (rest : List ℕ) → 0 < w → x < 10 ^ w → x ≤ 4294967295 → drop at text ≡ column w x ++ rest
-      → unsigned_value text at w ≡ some x
+      → unsigned_value text at w ≡ Some x
   unfolding unsigned_value
   unsigned-placed w x rest h f r e =
       ap unsigned_of (placed-column (column w x) rest w h (column-length w x) e) ∙ unsigned_reads_column w x h f r
 
   pub signed-placed : (w : ℕ) (z : ℤ) (rest : List ℕ) → 0 < w → FitsColumn w z → InRange z → drop at text ≡ signed_column w z ++ rest
-      → signed_value text at w ≡ some z
+      → signed_value text at w ≡ Some z
   unfolding signed_value
   signed-placed w z rest h f r e =
       ap signed_of (placed-column (signed_column w z) rest w h (signed-length w z) e) ∙ signed_reads_column w z f r
 
   -- and a column that has a value is the writer's column of it
-  complete : (w : ℕ) → (column_at text at w ≡ Fault → ⊥) → at + w ≤ length text
+  complete : (w : ℕ) → (column_at text at w ≡ None → ⊥) → at + w ≤ length text
   complete w ne = go (leb (at + w) (length text)) refl
     where
       go : (t : Bool) → leb (at + w) (length text) ≡ t → at + w ≤ length text
@@ -64,7 +63,7 @@ module _ (text : List ℕ) (at : ℕ) where
   bytes-length : (w : ℕ) → at + w ≤ length text → length (take w (drop at text)) ≡ w
   bytes-length w h = length-take-le w (drop at text) (omega (arith, length-drop at text))
 
-  pub unsigned-column-is : (w x : ℕ) → unsigned_value text at w ≡ some x
+  pub unsigned-column-is : (w x : ℕ) → unsigned_value text at w ≡ Some x
       → (drop at text ≡ column w x ++ drop (at + w) text) × (x ≤ 4294967295)
   unfolding unsigned_value
   unsigned-column-is w x e =
@@ -72,10 +71,10 @@ module _ (text : List ℕ) (at : ℕ) where
       let v = unsigned_is_column (take w (drop at text)) x (ap unsigned_of (sym (column_whole text at w r)) ∙ e) in
       (column-split w ∙ ap (λ (l : List ℕ). l ++ drop (at + w) text) (v.0 ∙ ap (λ (k : ℕ). column k x) (bytes-length w r)), v.1)
     where
-      none-no-some : (x : ℕ) → none ≡ some x → ⊥
+      none-no-some : (x : ℕ) → None ≡ Some x → ⊥
       none-no-some x e = let z : ◌≡◌ {A = ℕ} 0 1 = cc in omega arith
 
-  pub signed-column-is : (w : ℕ) (z : ℤ) → signed_value text at w ≡ some z
+  pub signed-column-is : (w : ℕ) (z : ℤ) → signed_value text at w ≡ Some z
       → (drop at text ≡ signed_column w z ++ drop (at + w) text) × InRange z
   unfolding signed_value
   signed-column-is w z e =
@@ -83,7 +82,7 @@ module _ (text : List ℕ) (at : ℕ) where
       let v = signed_is_column (take w (drop at text)) z (ap signed_of (sym (column_whole text at w r)) ∙ e) in
       (column-split w ∙ ap (λ (l : List ℕ). l ++ drop (at + w) text) (v.0 ∙ ap (λ (k : ℕ). signed_column k z) (bytes-length w r)), v.1)
     where
-      none-no-some : (z : ℤ) → none ≡ some z → ⊥
+      none-no-some : (z : ℤ) → None ≡ Some z → ⊥
       none-no-some z e = let o : ◌≡◌ {A = ℕ} 0 1 = cc in omega arith
 
   -- the line end

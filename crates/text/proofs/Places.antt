@@ -1,8 +1,8 @@
 -- The place of a refused text is below 1,400, whatever the text.
-use mathlib.Core.Path.{◌≡◌, sym}
+use mathlib.Core.Path.{◌≡◌}
 use mathlib.Core.Bool.{not}
 use mathlib.Core.List.{List, [], ◌∷◌, ◌++◌}
-use mathlib.Core.Option.{Option, none, some}
+use Rattle.std.specs.Prelude.{Option, Some, None, Err}
 use Prim.Native.Nat.{ℕ, zero, suc, ◌+◌, ◌*◌, ◌≤◌}
 use native.Mathlib.Omega.{arith}
 use borrow.Author.Tests.{ltb-false}
@@ -11,17 +11,16 @@ use lib.ListN.{length, get_or}
 use Rattle.refusal.specs.declared.Refusal.{Refusal}
 use Rattle.refusal.specs.declared.Refusal.TheVariants.{Form, NoCoefficient, TooManyCoefficients}
 use Rattle.refusal.specs.Number.{place_of}
-use Rattle.refusal.specs.Rules.{Verdict, passes, refuses, tried, rule2, rule3}
-use Rattle.refusal.proofs.Rules.{tried-both, tried-first, rule_passes}
+use Rattle.refusal.specs.Rules.{passes, tried, rule2, rule3}
+use Rattle.refusal.proofs.Rules.{tried-both, tried-first, rule_passes, value_refuses}
 use Rattle.refusal.proofs.Places.{PlaceAtMost, PlacesAtMost, rule_place, tried_place, tried_places}
-use Rattle.text.specs.declared.Read.TheVariants.{Refused}
 use Rattle.text.specs.Text.{unsigned_value, signed_value}
 use Rattle.text.specs.Form.{has_value, ends_line, ends_text, first_line_rules, count_of, coefficient_rules, verdict_at, end_at}
-use Rattle.text.specs.Form.{problem_by, problem_at, problem_of}
+use Rattle.text.specs.Form.{told_at, problem_at, problem_of}
 
 value_place : {A : Type 0} (b : ℕ) (o : Option A) (place : ℕ) → place ≤ b → PlaceAtMost b (has_value o place)
-value_place b (some x) place h = tt
-value_place b none place h = h
+value_place b (Some x) place h = tt
+value_place b None place h = h
 
 line_place : (b : ℕ) (text : List ℕ) (place : ℕ) → place ≤ b → PlaceAtMost b (ends_line text place)
 line_place b text place h = rule_place b (not (eqb (get_or text place 0) 10)) (Form place) h
@@ -78,17 +77,13 @@ module _ (text : List ℕ) where
       let h : end ≤ 1399 = omega (arith, verdict-few (tried-first (verdict_at text 0) [] e).0) in
       tried_places 1399 (ends_text text end ∷ []) (rule_place 1399 (ltb end (length text)) (Form end) h, tt))
 
-  refused-place : (v : Verdict) → PlaceAtMost 1399 v → (r : Refusal) → (problem_by v text 0).read ≡ Refused r → place_of r ≤ 1399
-  unfolding problem_by
-  refused-place passes h r e = let z : ◌≡◌ {A = ℕ} 0 1 = cc e in absurd (omega arith)
-  refused-place (refuses s) h r e = let same : s ≡ r = cc e in rw (sym same) h
-
   -- of the problem at the front of a text
-  pub front-place : (r : Refusal) → (problem_at text 0).read ≡ Refused r → place_of r ≤ 1399
+  pub front-place : (r : Refusal) → problem_at text 0 ≡ Err r → place_of r ≤ 1399
   unfolding problem_at
-  front-place r e = refused-place (verdict_at text 0) verdict-place r e
+  front-place r e = rw (value_refuses (verdict_at text 0) (told_at text 0) r e) at verdict-place
 
   -- of the problem that is the whole text
-  pub text-place : (r : Refusal) → (problem_of text).read ≡ Refused r → place_of r ≤ 1399
+  pub text-place : (r : Refusal) → problem_of text ≡ Err r → place_of r ≤ 1399
   unfolding problem_of
-  text-place r e = refused-place (tried (verdict_at text 0 ∷ ends_text text (end_at text 0) ∷ [])) whole-place r e
+  text-place r e =
+      rw (value_refuses (tried (verdict_at text 0 ∷ ends_text text (end_at text 0) ∷ [])) (told_at text 0) r e) at whole-place

@@ -2,7 +2,7 @@
 use mathlib.Core.Path.{◌≡◌, refl, sym, ap, ap₂, ◌∙◌}
 use mathlib.Core.Bool.{Bool, not}
 use mathlib.Core.List.{List, [], ◌∷◌}
-use mathlib.Core.Option.{Option, get_or}
+use Rattle.std.specs.Prelude.{Option, unwrap_or}
 use Prim.Native.Nat.{ℕ, zero, suc, ◌+◌, ◌*◌, ◌≤◌, ◌<◌}
 use native.Mathlib.Omega.{arith}
 use native.Mathlib.Decide.{dec_le, dec_lt}
@@ -69,5 +69,5 @@ module _ (m : ℕ) (text : List ℕ) where
   unfolding coefficients_at
   coefficients-same zero at h = refl
   coefficients-same (suc c) at h =
-      ap₂ (λ (z : ℤ) (l : List ℤ). z ∷ l) (ap (λ (o : Option ℤ). get_or o (pos 0)) (signed_same at 20 (omega arith)))
+      ap₂ (λ (z : ℤ) (l : List ℤ). z ∷ l) (ap (λ (o : Option ℤ). unwrap_or o (pos 0)) (signed_same at 20 (omega arith)))
       (coefficients-same c (at + 21) (omega arith))

@@ -1,20 +1,17 @@
 -- The form of the input (01, "Lent lists, map and text": "Input: …"), with rules 1, 2 and 3 of "When the solver declines".
 use Rattle.std.specs.Prelude.{not, List, [], ◌∷◌, ◌++◌, ℕ, zero, suc, ◌+◌, ◌-◌, ◌*◌, eqb, ltb, ℤ, pos, length, get_or, replicate}
-use Rattle.std.proofs.Math.Option
-use Rattle.std.proofs.Math.Option.{Option, none, some}
+use Rattle.std.specs.Prelude.{Result, Option, Some, None, unwrap_or}
 use Rattle.columns.specs.Column.{line_end}
 use Rattle.refusal.specs.declared.Refusal.{Refusal}
 use Rattle.refusal.specs.declared.Refusal.TheVariants.{Form}
-use Rattle.refusal.specs.Rules.{Verdict, passes, refuses, rule, tried, rule2, rule3}
-use Rattle.text.specs.declared.Read.{Read}
-use Rattle.text.specs.declared.Read.TheVariants.{Given, Refused}
+use Rattle.refusal.specs.Rules.{Verdict, passes, refuses, rule, tried, value_or, rule2, rule3}
 use Rattle.text.specs.declared.Problem.{Problem}
 use Rattle.text.specs.Text.{unsigned_value, signed_value}
 
 -- "1. …; the place is the offset of the first faulty or incomplete column": the column at the place has a value
 abbrev pub has_value : {A : Type 0} → Option A → ℕ → Verdict
-has_value (some x) place = passes
-has_value none place = refuses (Form place)
+has_value (Some x) place = passes
+has_value None place = refuses (Form place)
 
 -- "of a missing line end"
 abbrev pub ends_line : List ℕ → ℕ → Verdict
@@ -34,15 +31,15 @@ first_line_rules text at =
 -- p, n and c, the numbers of these columns
 unfoldable pub p_of : List ℕ → ℕ → ℕ
 unfolding unsigned_value
-p_of text at = Option.get_or (unsigned_value text at 11) 0
+p_of text at = unwrap_or (unsigned_value text at 11) 0
 
 unfoldable pub n_of : List ℕ → ℕ → ℕ
 unfolding unsigned_value
-n_of text at = Option.get_or (unsigned_value text (at + 11) 11) 0
+n_of text at = unwrap_or (unsigned_value text (at + 11) 11) 0
 
 unfoldable pub count_of : List ℕ → ℕ → ℕ
 unfolding unsigned_value
-count_of text at = Option.get_or (unsigned_value text (at + 22) 11) 0
+count_of text at = unwrap_or (unsigned_value text (at + 22) 11) 0
 
 -- "then c lines of one coefficient in 20 columns"
 unfoldable pub coefficient_rules : List ℕ → ℕ → ℕ → List Verdict
@@ -54,7 +51,7 @@ coefficient_rules text at (suc c) = has_value (signed_value text at 20) at ∷ e
 unfoldable pub coefficients_at : List ℕ → ℕ → ℕ → List ℤ
 unfolding signed_value
 coefficients_at text at zero = []
-coefficients_at text at (suc c) = Option.get_or (signed_value text at 20) (pos 0) ∷ coefficients_at text (at + 21) c
+coefficients_at text at (suc c) = unwrap_or (signed_value text at 20) (pos 0) ∷ coefficients_at text (at + 21) c
 
 -- "a row of 65 coefficients, zero after the c read"
 abbrev pub row_of : List ℤ → List ℤ
@@ -72,28 +69,24 @@ unfoldable pub end_at : List ℕ → ℕ → ℕ
 unfolding count_of
 end_at text at = at + 34 + 21 * count_of text at
 
--- a refused problem: its row is all zero
-abbrev pub refused_problem : Refusal → Problem
-refused_problem r = record { read = Refused r; coefficients = replicate 65 (pos 0) }
-
--- a problem where the verdict passes it
-abbrev pub problem_or : Verdict → Read → List ℤ → Problem
-problem_or passes read row = record { read = read; coefficients = row }
-problem_or (refuses r) read row = refused_problem r
-
 -- "The reader gives p, n, c and a row of 65 coefficients", and the place after them
-unfoldable pub problem_by : Verdict → List ℕ → ℕ → Problem
+unfoldable pub told_at : List ℕ → ℕ → Problem
 unfolding p_of n_of count_of end_at coefficients_at
-problem_by verdict text at =
-    problem_or verdict (Given (p_of text at) (n_of text at) (count_of text at) (end_at text at))
-    (row_of (coefficients_at text (at + 34) (count_of text at)))
+told_at text at =
+    record {
+      p = p_of text at;
+      n = n_of text at;
+      count = count_of text at;
+      end = end_at text at;
+      coefficients = row_of (coefficients_at text (at + 34) (count_of text at));
+    }
 
 -- the problem that starts at a place
-unfoldable pub problem_at : List ℕ → ℕ → Problem
-unfolding verdict_at problem_by
-problem_at text at = problem_by (verdict_at text at) text at
+unfoldable pub problem_at : List ℕ → ℕ → Result Problem Refusal
+unfolding verdict_at told_at
+problem_at text at = value_or (verdict_at text at) (told_at text at)
 
 -- the problem that is the whole text: "then the end"
-unfoldable pub problem_of : List ℕ → Problem
-unfolding verdict_at problem_by end_at
-problem_of text = problem_by (tried (verdict_at text 0 ∷ ends_text text (end_at text 0) ∷ [])) text 0
+unfoldable pub problem_of : List ℕ → Result Problem Refusal
+unfolding verdict_at told_at end_at
+problem_of text = value_or (tried (verdict_at text 0 ∷ ends_text text (end_at text 0) ∷ [])) (told_at text 0)

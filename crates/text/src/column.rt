@@ -1,10 +1,10 @@
 // One column: what its bytes, read from left to right, make.
-ghost use Rattle.std.specs.Prelude.{◌≡◌, ◌≤◌};
+ghost use Rattle.std.specs.Prelude.{◌≡◌, ◌+◌, ◌≤◌, Some, IsSome, length};
 ghost use Rattle.text.specs.Text.{column_at};
-ghost use Rattle.text.specs.Reading.{step as step_of, after_blank, after_minus, after_digit, scan as scan_of};
+ghost use Rattle.text.specs.Reading.{step as step_of, after_digit, scan as scan_of, unsigned_of, signed_of};
 ghost use Rattle.text.specs.inner.Capped.{capped};
 
-// What the bytes so far are.
+// What the bytes so far are, where none of them is a fault.
 #[derive(Clone, Copy)]
 pub(crate) enum Part {
     // blanks only
@@ -13,109 +13,81 @@ pub(crate) enum Part {
     Minus,
     // blanks, a minus or none, and the digits of a number
     Number { minus: bool, size: u64 },
-    // none of these
-    Fault,
 }
 
-fn after_blank(part: Part) -> Part
-    ensures { result ≡ after_blank part }
-{
-    match part {
-        Part::Blanks => Part::Blanks,
-        Part::Minus => Part::Fault,
-        Part::Number { minus: _, size: _ } => Part::Fault,
-        Part::Fault => Part::Fault,
+impl Part {
+    // The unsigned number, up to 4,294,967,295.
+    pub(crate) fn unsigned(self) -> Option<u32>
+        ensures { result ≡ unsigned_of (Some self) }
+    {
+        match self {
+            Part::Number { minus: false, size } => u32::try_from(size).ok(),
+            _ => None,
+        }
     }
-}
 
-fn after_minus(part: Part) -> Part
-    ensures { result ≡ after_minus part }
-{
-    if let Part::Blanks = part {
-        Part::Minus
-    } else {
-        Part::Fault
-    }
-}
-
-// One more digit of a number. Above 2^63, which is outside every type's range, a number is a fault.
-fn longer(minus: bool, size: u64, digit: u64) -> Part
-    requires { digit ≤ 9 }
-    ensures { result ≡ capped (after_digit (Part.Number minus size) digit) }
-{
-    if size == 0 {
-        return Part::Fault;
-    }
-    if 922337203685477580 < size {
-        return Part::Fault;
-    }
-    let longer = size * 10 + digit;
-    if 9223372036854775808 < longer {
-        return Part::Fault;
-    }
-    Part::Number {
-        minus,
-        size: longer,
+    // The signed 64-bit number, −2^63 included.
+    pub(crate) fn signed(self) -> Option<i64>
+        ensures { result ≡ signed_of (Some self) }
+    {
+        match self {
+            Part::Number { minus: true, size } => 0i64.checked_sub_unsigned(size),
+            Part::Number { minus: false, size } => i64::try_from(size).ok(),
+            _ => None,
+        }
     }
 }
 
-fn after_digit(part: Part, digit: u64) -> Part
+// One more digit. Above 64 bits, which is outside every type's range, a number is a fault.
+fn after_digit(part: Part, digit: u64) -> Option<Part>
     requires { digit ≤ 9 }
     ensures { result ≡ capped (after_digit part digit) }
 {
     match part {
-        Part::Blanks => Part::Number {
+        Part::Blanks => Some(Part::Number {
             minus: false,
             size: digit,
-        },
-        Part::Minus => {
-            if digit == 0 {
-                return Part::Fault;
-            }
-            Part::Number {
-                minus: true,
-                size: digit,
-            }
-        }
-        Part::Number { minus, size } => longer(minus, size, digit),
-        Part::Fault => Part::Fault,
+        }),
+        Part::Minus if digit != 0 => Some(Part::Number {
+            minus: true,
+            size: digit,
+        }),
+        Part::Number { minus, size } if size != 0 => Some(Part::Number {
+            minus,
+            size: size.checked_mul(10)?.checked_add(digit)?,
+        }),
+        _ => None,
     }
 }
 
-// The part with one more byte: a blank, a minus, a digit or a fault.
-fn step(part: Part, byte: u8) -> Part
+// The part with one more byte: a blank and a minus stand only after blanks, and a byte that is neither nor a digit is a fault.
+#[tactic(auto, unfolding(crate::specs::Reading::step))]
+fn step(part: Part, byte: u8) -> Option<Part>
     ensures { result ≡ capped (step_of part byte) }
 {
-    match byte {
-        b' ' => after_blank(part),
-        b'-' => after_minus(part),
-        b'0'..=b'9' => after_digit(part, (byte - 48) as u64),
-        _ => Part::Fault,
+    match (part, byte) {
+        (Part::Blanks, b' ') => Some(Part::Blanks),
+        (Part::Blanks, b'-') => Some(Part::Minus),
+        (_, b'0'..=b'9') => after_digit(part, (byte - b'0') as u64),
+        _ => None,
     }
 }
 
 // A whole column.
-fn scan(column: &[u8]) -> Part
+fn scan(column: &[u8]) -> Option<Part>
     ensures { result ≡ capped (scan_of column.now) }
 {
     let mut part = Part::Blanks;
-    let mut i: usize = 0;
-    while i < column.len() {
-        part = step(part, column[i]);
-        i += 1;
+    for byte in column {
+        part = step(part, *byte)?;
     }
-    part
+    Some(part)
 }
 
-// The column of this width at a place of the text; a fault where the text ends inside it.
-pub(crate) fn column_at(text: &[u8], at: usize, width: usize) -> Part
-    ensures { result ≡ capped (column_at text.now at width) }
+// The column of this width at a place of the text; none where the text ends inside it.
+pub(crate) fn column_at(text: &[u8], at: usize, width: usize) -> Option<Part>
+    ensures value { result ≡ capped (column_at text.now at width) }
+    ensures inside { IsSome result → at + width ≤ length text.now }
 {
-    if text.len() < at {
-        return Part::Fault;
-    }
-    if text.len() - at < width {
-        return Part::Fault;
-    }
-    scan(&text[at..at + width])
+    scan(text.get(at..)?.get(..width)?)
 }

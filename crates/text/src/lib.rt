@@ -1,12 +1,11 @@
 // The text reader: columns read by a cursor, and the problem reader.
 #![tactic(auto)]
 
-ghost use Rattle.std.specs.Prelude.{◌≡◌, ◌+◌, ◌*◌, ◌≤◌, ◌<◌, pos, neg_ℤ};
-ghost use Rattle.text.specs.Text.{unsigned_at, signed_at, line_end_at};
-ghost use Rattle.refusal.specs.Rules.{tried};
-ghost use Rattle.text.specs.Form.{refused_problem, problem_or, coefficient_rules, coefficients_at, row_of, problem_at, problem_of};
+ghost use Rattle.std.specs.Prelude.{◌≡◌, ◌+◌, ◌*◌, ◌≤◌};
+ghost use Rattle.text.specs.Text.{cursor_at, unsigned_at, signed_at, line_end_at};
+ghost use Rattle.refusal.specs.Rules.{tried, value_or};
+ghost use Rattle.text.specs.Form.{coefficient_rules, coefficients_at, row_of, problem_at, problem_of};
 
-use column::Part;
 use refusal::Refusal;
 
 mod column;
@@ -17,191 +16,106 @@ pub struct Cursor {
     pub at: usize,
 }
 
-#[derive(Clone, Copy)]
-pub enum Unsigned {
-    // the number, and the place after its column
-    Value(u32, Cursor),
-    // the column is incomplete or holds no such number
-    Fault,
-}
-
-#[derive(Clone, Copy)]
-pub enum Signed {
-    // the number, and the place after its column
-    Value(i64, Cursor),
-    // the column is incomplete or holds no such number
-    Fault,
-}
-
-#[derive(Clone, Copy)]
-pub enum LineEnd {
-    // the place after it
-    Found(Cursor),
-    Missing,
-}
-
-// −size, as the complement of size − 1: size may be 2^63.
-fn negative(size: u64) -> i64
-    requires { (0 < size) × (size ≤ 9223372036854775808) }
-    ensures { result ≡ neg_ℤ (pos size) }
-{
-    !((size - 1) as i64)
-}
-
 impl Cursor {
-    // The unsigned number, up to 4,294,967,295, in the column of this width.
-    pub fn unsigned(self, text: &[u8], width: usize) -> Unsigned
+    // The unsigned number, up to 4,294,967,295, in the column of this width, and the place after it.
+    pub fn unsigned(self, text: &[u8], width: usize) -> Option<(u32, Cursor)>
         ensures { result ≡ unsigned_at text.now self.at width }
     {
-        let at = self.at;
-        let Part::Number { minus, size } = column::column_at(text, at, width) else {
-            return Unsigned::Fault;
+        let x = column::column_at(text, self.at, width)?.unsigned()?;
+        let next = Cursor {
+            at: self.at + width,
         };
-        if minus {
-            return Unsigned::Fault;
-        }
-        if 4294967295 < size {
-            return Unsigned::Fault;
-        }
-        Unsigned::Value(size as u32, Cursor { at: at + width })
+        Some((x, next))
     }
 
-    // The signed 64-bit number, −2^63 included, in the column of this width.
-    pub fn signed(self, text: &[u8], width: usize) -> Signed
+    // The signed 64-bit number, −2^63 included, in the column of this width, and the place after it.
+    pub fn signed(self, text: &[u8], width: usize) -> Option<(i64, Cursor)>
         ensures { result ≡ signed_at text.now self.at width }
     {
-        let at = self.at;
-        let Part::Number { minus, size } = column::column_at(text, at, width) else {
-            return Signed::Fault;
+        let x = column::column_at(text, self.at, width)?.signed()?;
+        let next = Cursor {
+            at: self.at + width,
         };
-        if minus {
-            return Signed::Value(negative(size), Cursor { at: at + width });
-        }
-        if 9223372036854775807 < size {
-            return Signed::Fault;
-        }
-        Signed::Value(size as i64, Cursor { at: at + width })
+        Some((x, next))
     }
 
-    // The line end, byte 10.
-    pub fn line_end(self, text: &[u8]) -> LineEnd
+    // The place after the line end, byte 10.
+    pub fn line_end(self, text: &[u8]) -> Option<Cursor>
         ensures { result ≡ line_end_at text.now self.at }
     {
-        let at = self.at;
-        if text.len() <= at {
-            return LineEnd::Missing;
+        if *text.get(self.at)? != b'\n' {
+            return None;
         }
-        if text[at] != 10 {
-            return LineEnd::Missing;
-        }
-        LineEnd::Found(Cursor { at: at + 1 })
+        Some(Cursor { at: self.at + 1 })
     }
-}
-
-#[derive(Clone, Copy)]
-pub enum Read {
-    // p, n, the number of coefficients, and the place after the last line
-    Given {
-        p: u32,
-        n: u32,
-        count: usize,
-        end: usize,
-    },
-    Refused(Refusal),
 }
 
 #[derive(Clone, Copy)]
 pub struct Problem {
-    pub read: Read,
-    // zero after the last that was read, and all zero where the problem is refused
+    pub p: u32,
+    pub n: u32,
+    // the number of coefficients
+    pub count: usize,
+    // the place after the last line
+    pub end: usize,
+    // zero after the last that was read
     pub coefficients: [i64; 65],
 }
 
-// A refused problem.
-fn refused(refusal: Refusal) -> Problem
-    ensures { result ≡ refused_problem refusal }
-{
-    Problem {
-        read: Read::Refused(refusal),
-        coefficients: [0i64; 65],
-    }
-}
-
-// The problem with this p and n whose lines of coefficients start here.
-fn read_coefficients(text: &[u8], start: Cursor, p: u32, n: u32, count: usize) -> Problem
+// The row of the coefficients whose lines start here, and the place after the last.
+fn read_coefficients(
+    text: &[u8],
+    start: Cursor,
+    count: usize,
+) -> Result<([i64; 65], Cursor), Refusal>
     requires { count ≤ 65 }
-    ensures { result ≡ problem_or (tried (coefficient_rules text.now start.at count))
-        (Read.Given p n count (start.at + 21 * count)) (row_of (coefficients_at text.now start.at count)) }
+    ensures { result ≡ value_or (tried (coefficient_rules text.now start.at count))
+        (row_of (coefficients_at text.now start.at count), cursor_at (start.at + 21 * count)) }
 {
-    let mut coefficients = [0i64; 65];
+    let mut row = [0i64; 65];
     let mut cursor = start;
-    let mut i: usize = 0;
-    while i < count {
-        let Signed::Value(x, end) = cursor.signed(text, 20) else {
-            return refused(Refusal::Form(cursor.at));
-        };
-        let LineEnd::Found(next) = end.line_end(text) else {
-            return refused(Refusal::Form(end.at));
-        };
-        coefficients[i] = x;
-        cursor = next;
-        i += 1;
+    for slot in row[..count].iter_mut() {
+        let (x, end) = cursor.signed(text, 20).ok_or(Refusal::Form(cursor.at))?;
+        cursor = end.line_end(text).ok_or(Refusal::Form(end.at))?;
+        *slot = x;
     }
-    Problem {
-        read: Read::Given {
-            p,
-            n,
-            count,
-            end: cursor.at,
-        },
-        coefficients,
-    }
+    Ok((row, cursor))
 }
 
 // The problem whose first line starts at this place of the text: p, n, the coefficients, and the place after its last line, whatever
 // follows. Rules 1, 2 and 3; places are offsets in the whole text.
-pub fn read_problem_at(text: &[u8], at: usize) -> Problem
+pub fn read_problem_at(text: &[u8], at: usize) -> Result<Problem, Refusal>
     ensures { result ≡ problem_at text.now at }
 {
     let first = Cursor { at };
-    let Unsigned::Value(p, second) = first.unsigned(text, 11) else {
-        return refused(Refusal::Form(at));
-    };
-    let Unsigned::Value(n, third) = second.unsigned(text, 11) else {
-        return refused(Refusal::Form(second.at));
-    };
-    let Unsigned::Value(count, end) = third.unsigned(text, 11) else {
-        return refused(Refusal::Form(third.at));
-    };
-    let LineEnd::Found(next) = end.line_end(text) else {
-        return refused(Refusal::Form(end.at));
-    };
+    let (p, second) = first.unsigned(text, 11).ok_or(Refusal::Form(at))?;
+    let (n, third) = second.unsigned(text, 11).ok_or(Refusal::Form(second.at))?;
+    let (count, end) = third.unsigned(text, 11).ok_or(Refusal::Form(third.at))?;
+    let next = end.line_end(text).ok_or(Refusal::Form(end.at))?;
     if count == 0 {
-        return refused(Refusal::NoCoefficient);
+        return Err(Refusal::NoCoefficient);
     }
     if 65 < count {
-        return refused(Refusal::TooManyCoefficients);
+        return Err(Refusal::TooManyCoefficients);
     }
-    read_coefficients(text, next, p, n, count as usize)
+    let count = count as usize;
+    let (coefficients, last) = read_coefficients(text, next, count)?;
+    Ok(Problem {
+        p,
+        n,
+        count,
+        end: last.at,
+        coefficients,
+    })
 }
 
 // The problem that is the whole text: after its last line the text must end. Rules 1, 2 and 3.
-pub fn read_problem(text: &[u8]) -> Problem
+pub fn read_problem(text: &[u8]) -> Result<Problem, Refusal>
     ensures { result ≡ problem_of text.now }
 {
-    let problem = read_problem_at(text, 0);
-    let read = problem.read;
-    let Read::Given {
-        p: _,
-        n: _,
-        count: _,
-        end,
-    } = read
-    else {
-        return problem;
-    };
-    if end < text.len() {
-        return refused(Refusal::Form(end));
+    let problem = read_problem_at(text, 0)?;
+    if problem.end < text.len() {
+        return Err(Refusal::Form(problem.end));
     }
-    problem
+    Ok(problem)
 }

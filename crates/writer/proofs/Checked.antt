@@ -1,4 +1,5 @@
 -- What the rules on p, n and the lists leave to the writer.
+use Rattle.std.specs.Prelude.{Err}
 use mathlib.Core.Path.{◌≡◌, refl, sym, ap, ◌∙◌}
 use mathlib.Core.List.{List, [], ◌∷◌}
 use Prim.Native.Nat.{ℕ, ◌+◌, ◌*◌}
@@ -8,8 +9,7 @@ use lib.ListN.{length}
 use Rattle.theory.specs.ClassList.{member_total}
 use Rattle.theory.proofs.Numbers.Prime.{prime_pos}
 use Rattle.refusal.specs.declared.Refusal.{Refusal}
-use Rattle.refusal.specs.Rules.{Verdict, passes, refuses, tried, rule12}
-use Rattle.numbers.specs.declared.Modulus.TheVariants.{Refused}
+use Rattle.refusal.specs.Rules.{Verdict, passes, refuses, tried, rule12, value_or}
 use Rattle.numbers.specs.Saturated.{saturated}
 use Rattle.numbers.proofs.Saturated.{saturated-within}
 use Rattle.classes.specs.Rule7.{classes_of}
@@ -18,7 +18,7 @@ use Rattle.classes.specs.inner.Usable.{UsableMarked}
 use Rattle.classes.proofs.Entries.{classes_levels}
 use Rattle.classes.proofs.Faults.{faultless-most}
 use Rattle.classes.proofs.MarkedChecks.{marked_refused, marked-leads}
-use Rattle.writer.specs.Written.{bytes_or, writer_verdict, written_of}
+use Rattle.writer.specs.Written.{writer_verdict, written_of}
 
 -- a rule alone
 one-rule : (v : Verdict) → tried (v ∷ []) ≡ v
@@ -42,12 +42,12 @@ module _ (p n : ℕ) (residues : List ℤ) (levels marks : List ℕ) where
       let v = rule12 bytes (length residues) in
       sym (marked-leads p n residues levels marks C (v ∷ []) ∙ one-rule v)
 
-  pub verdict-refuses : (r : Refusal) (bytes : ℕ) → marked_checked_of p n residues levels marks ≡ Refused r
+  pub verdict-refuses : (r : Refusal) (bytes : ℕ) → marked_checked_of p n residues levels marks ≡ Err r
       → writer_verdict p n residues levels marks bytes ≡ refuses r
   unfolding writer_verdict
   verdict-refuses r bytes e = marked_refused p n residues levels marks r e (rule12 bytes (length residues) ∷ [])
 
   pub written-answer : (bytes : ℕ)
-      → bytes_or (writer_verdict p n residues levels marks bytes) (45 * (length residues + 1)) ≡ written_of p n residues levels marks bytes
+      → value_or (writer_verdict p n residues levels marks bytes) (45 * (length residues + 1)) ≡ written_of p n residues levels marks bytes
   unfolding written_of
   written-answer bytes = refl

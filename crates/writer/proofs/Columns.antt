@@ -1,14 +1,17 @@
 -- Columns written from the right, byte by byte.
 use mathlib.Core.Path.{◌≡◌, refl, sym, ap, ◌∙◌}
+use mathlib.Core.Bool.{true, false}
 use mathlib.Core.List.{List, [], ◌∷◌, ◌++◌, append_assoc}
 use Prim.Native.Nat.{ℕ, zero, suc, ◌+◌, ◌-◌, ◌*◌, ◌/◌, ◌%◌, ◌≤◌, ◌<◌}
 use native.Mathlib.Numerals.{add-one}
 use native.Mathlib.Decide.{dec_le, ℕ_discrete}
 use native.Mathlib.Omega.{arith}
-use borrow.Author.Tests.{eq-eqb, ne_eqb}
+use borrow.Author.Tests.{eq-eqb, ne_eqb, le-ltb}
+use lib.Signed.{lt_z}
+use lib.IntN.{ℤ, pos, negsuc, nat_abs}
 use lib.ListN.{length, drop, set, replicate, length-set, replicate-append-replicate}
 use lib.Seq.{drop-cons, get_or-set_same, drop-set-lt}
-use Rattle.columns.specs.Column.{column, sign, minus_column, blank, minus, digit_byte}
+use Rattle.columns.specs.Column.{column, signed_column, sign, minus_column, blank, minus, digit_byte}
 use Rattle.columns.proofs.Digits.{column_short, column_long, minus_short, minus_long}
 use Rattle.writer.specs.inner.Place.{left_of, left_byte, number_of}
 
@@ -74,6 +77,13 @@ number-column w x = sym (by_digits blank column (λ k. replicate k blank) (λ y.
 pub number-minus : (w x : ℕ) → number_of minus w x ≡ minus_column w x
 unfolding minus_column
 number-minus w x = sym (by_digits minus minus_column sign (λ y. refl) minus_short minus_long left_minus w x)
+
+-- a signed number: the digits of its size, with a minus before them where it is below 0
+pub signed-number : (w : ℕ) (z : ℤ) (s : ℕ) → (lt_z z (pos 0) ≡ true → s ≡ minus) → (lt_z z (pos 0) ≡ false → s ≡ blank)
+    → number_of s w (nat_abs z) ≡ signed_column w z
+unfolding signed_column
+signed-number w (pos k) s below above = rw (above (le-ltb k 0 (omega arith))) (number-column w k)
+signed-number w (negsuc k) s below above = rw (below refl) (number-minus w (suc k))
 
 -- Writing them
 

@@ -16,10 +16,9 @@ use Rattle.theory.proofs.Numbers.Prime.{prime_pos}
 use Rattle.theory.proofs.Signed.Centered.{in_range}
 use Rattle.refusal.specs.declared.Refusal.{Refusal}
 use Rattle.refusal.specs.Number.{number_of, place_of}
-use Rattle.refusal.specs.Rules.{Verdict, passes, rule12}
+use Rattle.refusal.specs.Rules.{Verdict, passes, rule12, value_or}
 use Rattle.refusal.proofs.Rules.{tried-both}
 use Rattle.refusal.proofs.Places.{number_at_most}
-use Rattle.numbers.specs.Modulus.{power_or}
 use Rattle.numbers.specs.inner.Usable.{Usable}
 use Rattle.classes.specs.Rule7.{classes_of}
 use Rattle.classes.specs.Checked.{marked_rules, marked_checked_of}
@@ -86,8 +85,9 @@ module _ (p n : ℕ) (residues : List ℤ) (levels marks : List ℕ) where
           omega (arith, U.within, pow-le-pow_right {n = p} hp {i = (signed_slot L i).level} {j = n} (class i h).level_fits)
 
   -- what the writer writes
-  pub written-fits : (bytes : ℕ) → writer_verdict p n residues levels marks bytes ≡ passes → OutputFits p n (classes_of residues levels) marks
+  pub written-fits : (bytes : ℕ) → writer_verdict p n residues levels marks bytes ≡ passes
+      → OutputFits p n (classes_of residues levels) marks
   unfolding writer_verdict marked_checked_of
   written-fits bytes v =
       let rules = (tried-both (marked_rules p n residues levels marks) (rule12 bytes (length residues) ∷ []) v).0 in
-      usable-fits (p ^ n) (marked-accepted p n residues levels marks (p ^ n) (ap (λ (w : Verdict). power_or w (p ^ n)) rules))
+      usable-fits (p ^ n) (marked-accepted p n residues levels marks (p ^ n) (ap (λ (w : Verdict). value_or w (p ^ n)) rules))

@@ -5,7 +5,7 @@ use Prim.Native.Nat.{ℕ, ◌+◌, ◌*◌, ◌^◌, ◌≤◌, ◌<◌}
 use native.Mathlib.Omega.{arith}
 use lib.IntN.{ℤ, pos}
 use lib.ListN.{length, take, drop}
-use lib.Seq.{take_all, length-take-le}
+use lib.Seq.{length-take-le}
 use Rattle.theory.specs.ClassList.{member_total}
 use Rattle.theory.specs.SignedClass.{levels_of}
 use Rattle.classes.specs.Rule7.{classes_of}
@@ -43,15 +43,6 @@ module _ (p n : ℕ) (residues : List ℤ) (levels marks : List ℕ) (fit : Usab
       ∙ laid_next 45 before text this (45 * (i + 1)) place (omega arith)
       ∙ ap (λ (l : List ℕ). laid 45 l text)
       (sym (lines_next p n residues levels marks i h (omega (arith, fit.same_length)) (omega (arith, fit.same_marks))))
-
-  -- all lines
-  pub lines_end : (i : ℕ) → length residues ≤ i
-      → laid 45 (lines_to p n residues levels marks i) text ≡ laid 45 (class_lines p n (classes_of residues levels) marks) text
-  lines_end i h =
-      let r : take i residues ≡ residues = take_all i residues h in
-      let t : take i levels ≡ levels = take_all i levels (omega (arith, fit.same_length)) in
-      let m : take i marks ≡ marks = take_all i marks (omega (arith, fit.same_marks)) in
-      rw (r, t, m)
 
   -- the first line and those of the classes
   pub output-laid : (first last : List ℕ) → 45 * (length residues + 1) ≤ length text

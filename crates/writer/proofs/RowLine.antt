@@ -65,9 +65,6 @@ module _ (row : List ℕ) (i : ℕ) where
 
     -- and no column is left
     module _ (all : i ≡ length row) where
-      pub row-bytes : 20 * i + 1 ≡ length (row_line row)
-      row-bytes = omega (arith, row_length row)
-
       pub row-end : set now (20 * i) line_end ≡ laid 0 (row_line row) text
       row-end =
           let before = columns_of (take i row) in
@@ -82,16 +79,3 @@ module _ (row : List ℕ) (i : ℕ) where
 
 pub row_begin : (row text : List ℕ) → text ≡ laid 0 (columns_of (take 0 row)) text
 row_begin row text = laid_nothing 0 text
-
--- the first k of a row's numbers are its first 32, or all where it has fewer
-pub record Shown (row : List ℕ) (k : ℕ) : Type 0 where
-  pub within : k ≤ length row
-  pub few : k ≤ 32
-  pub same : take k row ≡ take 32 row
-
-pub all_shown : (row : List ℕ) (k : ℕ) → k ≡ length row → length row < 32 → Shown row k
-all_shown row k e h =
-    record { within = omega arith; few = omega arith; same = take_all k row (omega arith) ∙ sym (take_all 32 row (omega arith)) }
-
-pub first_shown : (row : List ℕ) (k : ℕ) → k ≡ 32 → 32 ≤ length row → Shown row k
-first_shown row k e h = record { within = omega arith; few = omega arith; same = ap (λ (j : ℕ). take j row) e }

@@ -5,13 +5,11 @@ ghost use Rattle.writer.specs.inner.Place.{laid, left_of, left_byte, number_of};
 ghost use Rattle.writer.specs.Output.{line};
 
 // The byte next to the left of a digit, where y is the number without that digit: its last digit, or `lead` where it has none.
+#[tactic(auto, unfolding(crate::specs::inner::Place::left_byte))]
 fn left_byte(y: u64, lead: u8) -> u8
     ensures { result ≡ left_byte lead y }
 {
-    if y == 0 {
-        return lead;
-    }
-    ((y % 10) as u8) + b'0'
+    if y == 0 { lead } else { (y % 10) as u8 + b'0' }
 }
 
 // The digits of y, if it has any, at the right end of the first width bytes, left of them the sign, and blanks left of it.
@@ -19,16 +17,14 @@ fn put_left(part: &mut [u8], width: usize, y: u64, sign: u8)
     requires { width ≤ length part.old }
     ensures { part.new ≡ left_of sign width y ++ drop width part.old }
 {
-    let mut i = width;
     let mut rest = y;
     let mut lead = sign;
-    while 0 < i {
-        i -= 1;
+    for i in (0..width).rev() {
         part[i] = left_byte(rest, lead);
         if rest == 0 {
             lead = b' ';
         }
-        rest = rest / 10;
+        rest /= 10;
     }
 }
 
@@ -38,7 +34,7 @@ fn put_number(part: &mut [u8], width: usize, x: u64, sign: u8)
     ensures { part.new ≡ number_of sign width x ++ drop width part.old }
 {
     let last = width - 1;
-    part[last] = ((x % 10) as u8) + b'0';
+    part[last] = (x % 10) as u8 + b'0';
     put_left(part, last, x / 10, sign);
 }
 
@@ -50,16 +46,13 @@ pub(crate) fn put_column(text: &mut [u8], at: usize, width: usize, x: u64)
     put_number(&mut text[at..], width, x, b' ');
 }
 
-// The same for a signed number. A negative z is −(k + 1), where k is !z.
+// The same for a signed number.
 fn put_signed_column(text: &mut [u8], at: usize, width: usize, z: i64)
     requires { (0 < width) × (at + width ≤ length text.old) }
     ensures { text.new ≡ laid at (signed_column width z) text.old }
 {
-    if z < 0 {
-        put_number(&mut text[at..], width, (!z) as u64 + 1, b'-');
-    } else {
-        put_number(&mut text[at..], width, z as u64, b' ');
-    }
+    let sign = if z < 0 { b'-' } else { b' ' };
+    put_number(&mut text[at..], width, z.unsigned_abs(), sign);
 }
 
 // A line of four columns, from the place at on.

@@ -51,9 +51,7 @@ pub(crate) fn put_classes(
     ensures { text.new
         ≡ laid 45 (class_lines p n (classes_of residues.now levels.now) marks.now) text.old }
 {
-    let mut i: usize = 0;
-    while i < residues.len() {
+    for i in 0..residues.len() {
         put_class(p, n, residues, levels, marks, i, text);
-        i += 1;
     }
 }

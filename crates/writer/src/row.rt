@@ -11,11 +11,10 @@ pub(crate) fn put_row(row: &[u64], text: &mut [u8]) -> usize
     ensures bytes { result ≡ length (row_line row.now) }
     ensures text { text.new ≡ laid 0 (row_line row.now) text.old }
 {
-    let mut i: usize = 0;
-    while i < row.len() {
-        column::put_column(text, 20 * i, 20, row[i]);
-        i += 1;
+    for (i, x) in row.iter().enumerate() {
+        column::put_column(text, 20 * i, 20, *x);
     }
-    text[20 * i] = b'\n';
-    20 * i + 1
+    let end = 20 * row.len();
+    text[end] = b'\n';
+    end + 1
 }

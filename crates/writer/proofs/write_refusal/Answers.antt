@@ -1,7 +1,7 @@
 -- `writer::write_refusal` meets its contract.
 use mathlib.Core.Path.{◌≡◌, ap, ◌∙◌}
 use Prim.Native.Nat.{ℕ}
-use lib.ListN.{length, length-set}
+use lib.ListN.{length}
 use Rattle.refusal.specs.declared.Refusal.TheVariants.{BufferTooSmall}
 use Rattle.columns.specs.Column.{column}
 use Rattle.writer.specs.inner.Place.{laid}
@@ -21,10 +21,6 @@ returns-then-text-lt23 c =
       answer = refused-answer v (BufferTooSmall 23) 23 e ∙ refusal-answer (length l);
       text = refused-text v (BufferTooSmall 23) (refusal_line a.refusal) l e;
     }
-
-pub shape_of-text : goal.shape_of-text
-shape_of-text c =
-    length-set c.put_column-2.new.text _ _ ∙ c.put_column-2.auto.text ∙ c.put_column.auto.text
 
 pub returns : goal.returns
 returns c =

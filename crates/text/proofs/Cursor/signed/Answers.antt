@@ -1,69 +1,24 @@
 -- `text::Cursor::signed` meets its contract.
-use mathlib.Core.Path.{sym, ◌∙◌}
-use native.Mathlib.Omega.{arith}
-use lib.IntN.{pos, neg_ℤ}
-use lib.ListN.{take, drop}
-use mir.Syntax.{w64}
-use mir.Val.{to_z, of_z}
-use mir.ValLaws.{to_z_pos}
-use Rattle.text.specs.Text.{column_at}
-use Rattle.text.proofs.Values.{capped_means, column-number, number_positive, no_signed, signed_negative, signed_large}
-use Rattle.text.proofs.Values.{signed-natural}
-use Rattle.text.proofs.Values.{kept_negative, signed_fault, signed_read}
+use Rattle.std.proofs.Common.{Some, sym, ◌∙◌}
+use Rattle.text.proofs.Values.{kept, signed_read}
 use Rattle.text.proofs.Cursor.signed.Goals as goal
 
-pub returns-in_default : goal.returns-in_default
-returns-in_default c =
+pub returns-in_err-column_at : goal.returns-in_err-column_at
+returns-in_err-column_at c =
     let a = c.args in
-    let k = c.column_at in
-    signed_fault a.text.now a.self.at a.width
-    (no_signed (column_at a.text.now a.self.at a.width) k.result k.ensures c.in_default.not-Number)
+    c.from_residual.ensures
+    ∙ rw c.in_err-column_at.was at (signed_read a.text.now a.self.at a.width c.column_at.result c.column_at.ensures.value)
 
-pub negative-requires : goal.negative-requires
-negative-requires c =
+pub returns-in_err-x : goal.returns-in_err-x
+returns-in_err-x c =
     let a = c.args in
-    let g = c.in-Number in
-    let made = capped_means (column_at a.text.now a.self.at a.width) g.minus g.size (sym g.is ∙ c.column_at.ensures) in
-    let n = column-number a.text.now a.self.at a.width g.minus g.size made.0 in
-    (number_positive (take a.width (drop a.self.at a.text.now)) g.minus g.size n.1 c.if-minus.true, made.1)
-
-pub overflow_add-result : goal.overflow_add-result
-overflow_add-result c =
-    let a = c.args in
-    let g = c.in-Number in
-    let made = capped_means (column_at a.text.now a.self.at a.width) g.minus g.size (sym g.is ∙ c.column_at.ensures) in
-    omega (arith, (column-number a.text.now a.self.at a.width g.minus g.size made.0).0)
-
-pub returns-then-minus : goal.returns-then-minus
-returns-then-minus c =
-    let a = c.args in
-    let g = c.in-Number in
-    let made = capped_means (column_at a.text.now a.self.at a.width) g.minus g.size (sym g.is ∙ c.column_at.ensures) in
-    signed_read a.text.now a.self.at a.width (neg_ℤ (pos g.size)) (to_z w64 (of_z w64 c.negative.result))
-    (kept_negative g.size c.negative.result c.negative.ensures made.1)
-    (signed_negative (column_at a.text.now a.self.at a.width) g.minus g.size made.0 c.if-minus.true made.1)
-
-pub returns-then-size-gt9223372036854775807 : goal.returns-then-size-gt9223372036854775807
-returns-then-size-gt9223372036854775807 c =
-    let a = c.args in
-    let g = c.in-Number in
-    let made = capped_means (column_at a.text.now a.self.at a.width) g.minus g.size (sym g.is ∙ c.column_at.ensures) in
-    signed_fault a.text.now a.self.at a.width
-    (signed_large (column_at a.text.now a.self.at a.width) g.minus g.size made.0 c.if-minus.false
-    c.if-size-gt9223372036854775807.true)
-
-pub overflow_add-result-2 : goal.overflow_add-result-2
-overflow_add-result-2 c =
-    let a = c.args in
-    let g = c.in-Number in
-    let made = capped_means (column_at a.text.now a.self.at a.width) g.minus g.size (sym g.is ∙ c.column_at.ensures) in
-    omega (arith, (column-number a.text.now a.self.at a.width g.minus g.size made.0).0)
+    c.from_residual-in_err-x.ensures
+    ∙ rw (c.in_ok-column_at.was, sym c.signed.ensures, c.in_err-x.was) at
+    (signed_read a.text.now a.self.at a.width c.column_at.result c.column_at.ensures.value)
 
 pub returns : goal.returns
 returns c =
     let a = c.args in
-    let g = c.in-Number in
-    let made = capped_means (column_at a.text.now a.self.at a.width) g.minus g.size (sym g.is ∙ c.column_at.ensures) in
-    signed_read a.text.now a.self.at a.width (pos g.size) (to_z w64 g.size) (to_z_pos w64 g.size (omega arith))
-    (signed-natural (column_at a.text.now a.self.at a.width) g.minus g.size made.0 c.if-minus.false
-    c.if-size-gt9223372036854775807.false)
+    rw (kept (Some c.in_ok-column_at.field-0) c.in_ok-x.x (sym c.signed.ensures ∙ c.in_ok-x.was))
+    (rw (c.in_ok-column_at.was, sym c.signed.ensures, c.in_ok-x.was) at
+    (signed_read a.text.now a.self.at a.width c.column_at.result c.column_at.ensures.value))

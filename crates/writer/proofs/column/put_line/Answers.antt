@@ -1,21 +1,12 @@
 -- `writer::column::put_line` meets its contract.
 use mathlib.Core.Path.{ap, ◌∙◌}
 use lib.IntN.{ℤ}
-use lib.ListN.{length-set}
 use mir.Syntax.{w64}
 use mir.ValLaws.{to_z-of_z}
 use Rattle.columns.specs.Column.{signed_column}
 use Rattle.writer.specs.inner.Place.{laid}
 use Rattle.writer.proofs.Line.{line-laid}
 use Rattle.writer.proofs.column.put_line.Goals as goal
-
-pub shape_of-text : goal.shape_of-text
-shape_of-text c =
-    length-set c.put_column-3.new.text _ _
-    ∙ c.put_column-3.auto.text
-    ∙ c.put_column-2.auto.text
-    ∙ c.put_column.auto.text
-    ∙ c.put_signed_column.auto.text
 
 pub returns : goal.returns
 returns c =

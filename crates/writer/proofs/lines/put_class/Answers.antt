@@ -3,6 +3,7 @@ use mathlib.Core.Path.{ap, ◌∙◌}
 use mathlib.Core.List.{List}
 use Prim.Native.Nat.{ℕ, ◌+◌, ◌-◌, ◌*◌}
 use native.Mathlib.Omega.{arith}
+use Rattle.std.proofs.Common.{rules}
 use lib.IntN.{ℤ, pos}
 use lib.ListN.{get_or}
 use mir.Syntax.{w32}
@@ -22,7 +23,7 @@ returns c =
     let z = get_or a.residues.now i (pos 0) in
     let t = get_or a.levels.now i 0 in
     let mark = get_or a.marks.now i 0 in
-    let narrow : SFits w32 z = record { sfits = c.put_line-arg-2-1.given } in
+    let narrow : SFits w32 z = search rules in
     let U = c.requires.0.modulus in
     let members = saturated_power {t = a.n - t} (prime_pos U.prime) (omega arith) U.within c.member_count.ensures in
     c.put_line.ensures

@@ -1,14 +1,8 @@
 -- `writer::lines::put_classes` meets its contract. The invariant: the lines of the first i classes are laid.
 use mathlib.Core.Path.{◌≡◌}
-use Prim.Native.Nat.{◌-◌, ◌≤◌}
-use lib.ListN.{length}
 use Rattle.writer.specs.inner.Place.{laid}
 use Rattle.writer.proofs.ClassLines.{lines_to}
 use Rattle.writer.proofs.lines.put_classes.Given as goal
 
 abbrev pub invariant-loop-i : goal.invariant-loop-i
-invariant-loop-i l =
-    (l.i ≤ length l.residues) × (length l.text ≡ length l.initial.text) × (l.text ≡ laid 45 (lines_to l.p l.n l.residues l.levels l.marks l.i) l.initial.text)
-
-abbrev pub decreases-loop-i : goal.decreases-loop-i
-decreases-loop-i l = length l.residues - l.i
+invariant-loop-i l = l.text ≡ laid 45 (lines_to l.p l.n l.residues l.levels l.marks l.i) l.initial.text
