@@ -3,7 +3,7 @@ ghost use Rattle.std.specs.Prelude.{◌≡◌};
 ghost use Rattle.rootmap.specs.Map.{counted_of};
 ghost use Rattle.capi.specs.Answers.{count_answer};
 
-use rootmap::Counted;
+use refusal::Refusal;
 
 #[repr(C)]
 #[derive(Clone, Copy)]
@@ -13,20 +13,22 @@ pub struct CountAnswer {
     pub ones: u64,
 }
 
-fn count_answer(counted: Counted) -> CountAnswer
-    ensures { result ≡ count_answer counted }
-{
-    match counted {
-        Counted::Ones(ones) => CountAnswer {
-            number: 0,
-            place: 0,
-            ones,
-        },
-        Counted::Refused(r) => CountAnswer {
-            number: r.number(),
-            place: r.place(),
-            ones: 0,
-        },
+impl From<Result<u64, Refusal>> for CountAnswer {
+    ghost from_gives = { λ counted answer. answer ≡ count_answer counted };
+
+    fn from(counted: Result<u64, Refusal>) -> CountAnswer {
+        match counted {
+            Ok(ones) => CountAnswer {
+                number: 0,
+                place: 0,
+                ones,
+            },
+            Err(r) => CountAnswer {
+                number: r.number(),
+                place: r.place(),
+                ones: 0,
+            },
+        }
     }
 }
 
@@ -35,5 +37,5 @@ fn count_answer(counted: Counted) -> CountAnswer
 pub extern "C" fn wimpleclay_count_map(p: u32, n: u32, map: &[u8]) -> CountAnswer
     ensures { result ≡ count_answer (counted_of p n map.now) }
 {
-    count_answer(rootmap::count_map(p, n, map))
+    rootmap::count_map(p, n, map).into()
 }

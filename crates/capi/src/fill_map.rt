@@ -1,31 +1,9 @@
 // The root map for C.
 ghost use Rattle.std.specs.Prelude.{◌≡◌, length};
 ghost use Rattle.rootmap.specs.Map.{mapped_of, map_filled};
-ghost use Rattle.capi.specs.Answers.{map_answer};
+ghost use Rattle.capi.specs.Answers.{done_answer};
 
-use rootmap::Mapped;
-
-#[repr(C)]
-#[derive(Clone, Copy)]
-pub struct MapAnswer {
-    pub number: u32,
-    pub place: usize,
-}
-
-fn map_answer(mapped: Mapped) -> MapAnswer
-    ensures { result ≡ map_answer mapped }
-{
-    match mapped {
-        Mapped::Filled => MapAnswer {
-            number: 0,
-            place: 0,
-        },
-        Mapped::Refused(r) => MapAnswer {
-            number: r.number(),
-            place: r.place(),
-        },
-    }
-}
+use crate::answers::DoneAnswer;
 
 // `rootmap::fill_map`. Rules 4, 14, 5, 6, 7, 9 and 10; a refusal alters nothing.
 #[unsafe(no_mangle)]
@@ -35,9 +13,9 @@ pub extern "C" fn wimpleclay_fill_map(
     residues: &[i32],
     levels: &[u8],
     map: &mut [u8],
-) -> MapAnswer
-    ensures answer { result ≡ map_answer (mapped_of p n residues.now levels.now (length map.old)) }
+) -> DoneAnswer
+    ensures answer { result ≡ done_answer (mapped_of p n residues.now levels.now (length map.old)) }
     ensures map { map.new ≡ map_filled p n residues.now levels.now map.old }
 {
-    map_answer(rootmap::fill_map(p, n, residues, levels, map))
+    rootmap::fill_map(p, n, residues, levels, map).into()
 }

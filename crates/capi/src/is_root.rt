@@ -3,7 +3,7 @@ ghost use Rattle.std.specs.Prelude.{◌≡◌};
 ghost use Rattle.solver.specs.Solve.{tested_of};
 ghost use Rattle.capi.specs.Answers.{test_answer};
 
-use solver::Tested;
+use refusal::Refusal;
 
 #[repr(C)]
 #[derive(Clone, Copy)]
@@ -14,25 +14,22 @@ pub struct TestAnswer {
     pub root: u32,
 }
 
-fn test_answer(tested: Tested) -> TestAnswer
-    ensures { result ≡ test_answer tested }
-{
-    match tested {
-        Tested::Yes => TestAnswer {
-            number: 0,
-            place: 0,
-            root: 1,
-        },
-        Tested::No => TestAnswer {
-            number: 0,
-            place: 0,
-            root: 0,
-        },
-        Tested::Refused(r) => TestAnswer {
-            number: r.number(),
-            place: r.place(),
-            root: 0,
-        },
+impl From<Result<bool, Refusal>> for TestAnswer {
+    ghost from_gives = { λ tested answer. answer ≡ test_answer tested };
+
+    fn from(tested: Result<bool, Refusal>) -> TestAnswer {
+        match tested {
+            Ok(root) => TestAnswer {
+                number: 0,
+                place: 0,
+                root: u32::from(root),
+            },
+            Err(r) => TestAnswer {
+                number: r.number(),
+                place: r.place(),
+                root: 0,
+            },
+        }
     }
 }
 
@@ -41,5 +38,5 @@ fn test_answer(tested: Tested) -> TestAnswer
 pub extern "C" fn wimpleclay_is_root(coefficients: &[i64], p: u32, n: u32, point: u32) -> TestAnswer
     ensures { result ≡ test_answer (tested_of coefficients.now p n point) }
 {
-    test_answer(solver::is_root(coefficients, p, n, point))
+    solver::is_root(coefficients, p, n, point).into()
 }

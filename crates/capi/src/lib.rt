@@ -3,6 +3,7 @@
 // include/wimpleclay.h.
 #![tactic(auto)]
 
+mod answers;
 mod count_map;
 mod counts;
 mod fill_map;

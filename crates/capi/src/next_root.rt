@@ -3,7 +3,7 @@ ghost use Rattle.std.specs.Prelude.{◌≡◌};
 ghost use Rattle.classes.specs.Next.{next_of};
 ghost use Rattle.capi.specs.Answers.{next_answer};
 
-use classes::Next;
+use refusal::Refusal;
 
 #[repr(C)]
 #[derive(Clone, Copy)]
@@ -15,28 +15,30 @@ pub struct NextAnswer {
     pub root: u32,
 }
 
-fn next_answer(next: Next) -> NextAnswer
-    ensures { result ≡ next_answer next }
-{
-    match next {
-        Next::Root(root) => NextAnswer {
-            number: 0,
-            place: 0,
-            found: 1,
-            root,
-        },
-        Next::None => NextAnswer {
-            number: 0,
-            place: 0,
-            found: 0,
-            root: 0,
-        },
-        Next::Refused(r) => NextAnswer {
-            number: r.number(),
-            place: r.place(),
-            found: 0,
-            root: 0,
-        },
+impl From<Result<Option<u32>, Refusal>> for NextAnswer {
+    ghost from_gives = { λ next answer. answer ≡ next_answer next };
+
+    fn from(next: Result<Option<u32>, Refusal>) -> NextAnswer {
+        match next {
+            Ok(Some(root)) => NextAnswer {
+                number: 0,
+                place: 0,
+                found: 1,
+                root,
+            },
+            Ok(None) => NextAnswer {
+                number: 0,
+                place: 0,
+                found: 0,
+                root: 0,
+            },
+            Err(r) => NextAnswer {
+                number: r.number(),
+                place: r.place(),
+                found: 0,
+                root: 0,
+            },
+        }
     }
 }
 
@@ -51,5 +53,5 @@ pub extern "C" fn wimpleclay_next_root(
 ) -> NextAnswer
     ensures { result ≡ next_answer (next_of p n residues.now levels.now point) }
 {
-    next_answer(classes::next_root(p, n, residues, levels, point))
+    classes::next_root(p, n, residues, levels, point).into()
 }

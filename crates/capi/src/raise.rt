@@ -2,37 +2,9 @@
 ghost use Rattle.std.specs.Prelude.{◌≡◌};
 ghost use Rattle.solver.specs.Solve.{lists as lists_of};
 ghost use Rattle.solver.specs.Raise.{raised_of, raised_lists};
-ghost use Rattle.capi.specs.Answers.{raise_answer};
+ghost use Rattle.capi.specs.Answers.{list_answer};
 
-use solver::Raised;
-
-#[repr(C)]
-#[derive(Clone, Copy)]
-pub struct RaiseAnswer {
-    pub number: u32,
-    pub place: usize,
-    pub classes: usize,
-    pub roots: u64,
-}
-
-fn raise_answer(raised: Raised) -> RaiseAnswer
-    ensures { result ≡ raise_answer raised }
-{
-    match raised {
-        Raised::Found { classes, roots } => RaiseAnswer {
-            number: 0,
-            place: 0,
-            classes,
-            roots,
-        },
-        Raised::Refused(r) => RaiseAnswer {
-            number: r.number(),
-            place: r.place(),
-            classes: 0,
-            roots: 0,
-        },
-    }
-}
+use crate::answers::ListAnswer;
 
 // `solver::raise_precision`. Rules 2, 3, 4, 14, 5 for n, 5 for m, 17, 6 for the given lists, 6 for those to be filled, 7 and 11; a refusal
 // alters nothing.
@@ -47,14 +19,14 @@ pub extern "C" fn wimpleclay_raise(
     residues: &mut [i32],
     levels: &mut [u8],
     marks: &mut [u8],
-) -> RaiseAnswer
-    ensures answer { result ≡ raise_answer (raised_of coefficients.now p n m given_residues.now
+) -> ListAnswer
+    ensures answer { result ≡ list_answer (raised_of coefficients.now p n m given_residues.now
         given_levels.now (lists_of residues.old levels.old marks.old)) }
     ensures lists { lists_of residues.new levels.new marks.new
         ≡ raised_lists coefficients.now p n m given_residues.now given_levels.now
         (lists_of residues.old levels.old marks.old) }
 {
-    raise_answer(solver::raise_precision(
+    let raised = solver::raise_precision(
         coefficients,
         p,
         n,
@@ -64,5 +36,6 @@ pub extern "C" fn wimpleclay_raise(
         residues,
         levels,
         marks,
-    ))
+    );
+    raised.into()
 }

@@ -1,12 +1,11 @@
 // The text reader for C.
-ghost use Rattle.std.specs.Prelude.{◌≡◌, ◌++◌, ◌≤◌, length, drop};
-ghost use Rattle.refusal.specs.Rules.{filled};
+ghost use Rattle.std.specs.Prelude.{◌≡◌, length};
 ghost use Rattle.text.specs.Form.{problem_of};
 ghost use Rattle.capi.specs.Answers.{read_answer};
-ghost use Rattle.capi.specs.Row.{row_checked, read_verdict};
+ghost use Rattle.capi.specs.Row.{row_checked, row_after};
 
 use refusal::Refusal;
-use text::Read;
+use text::Problem;
 
 #[repr(C)]
 #[derive(Clone, Copy)]
@@ -18,73 +17,50 @@ pub struct ReadAnswer {
     pub count: usize,
 }
 
-fn read_answer(read: Read) -> ReadAnswer
-    ensures { result ≡ read_answer read }
-{
-    match read {
-        Read::Given {
-            p,
-            n,
-            count,
-            end: _,
-        } => ReadAnswer {
-            number: 0,
-            place: 0,
-            p,
-            n,
-            count,
-        },
-        Read::Refused(r) => ReadAnswer {
-            number: r.number(),
-            place: r.place(),
-            p: 0,
-            n: 0,
-            count: 0,
-        },
-    }
-}
+impl From<Result<Problem, Refusal>> for ReadAnswer {
+    ghost from_gives = { λ read answer. answer ≡ read_answer read };
 
-// Rule 11 for the lent row, after the rules of the text.
-fn check_row(read: Read, slots: usize) -> Read
-    ensures { result ≡ row_checked read slots }
-{
-    let Read::Refused(_) = read else {
-        if slots < 65 {
-            return Read::Refused(Refusal::TooFewSlots(65));
+    fn from(read: Result<Problem, Refusal>) -> ReadAnswer {
+        match read {
+            Ok(problem) => ReadAnswer {
+                number: 0,
+                place: 0,
+                p: problem.p,
+                n: problem.n,
+                count: problem.count,
+            },
+            Err(r) => ReadAnswer {
+                number: r.number(),
+                place: r.place(),
+                p: 0,
+                n: 0,
+                count: 0,
+            },
         }
-        return read;
-    };
-    read
+    }
 }
 
-// The row into the first 65 slots.
-fn put_row(row: [i64; 65], coefficients: &mut [i64])
-    requires { 65 ≤ length coefficients.old }
-    ensures { coefficients.new ≡ row ++ drop (length row) coefficients.old }
+// The problem of the text, whose row goes into the first slots of the lent row.
+fn read_into(text: &[u8], coefficients: &mut [i64]) -> Result<Problem, Refusal>
+    ensures read { result ≡ row_checked (problem_of text.now) (length coefficients.old) }
+    ensures coefficients { coefficients.new
+        ≡ row_after (row_checked (problem_of text.now) (length coefficients.old)) coefficients.old }
 {
-    let mut i: usize = 0;
-    while i < 65 {
-        coefficients[i] = row[i];
-        i += 1;
+    let problem = text::read_problem(text)?;
+    if coefficients.len() < 65 {
+        return Err(Refusal::TooFewSlots(65));
     }
+    coefficients[..65].copy_from_slice(&problem.coefficients);
+    Ok(problem)
 }
 
 // `text::read_problem`, whose row of 65 coefficients goes into the first slots of the lent row; later slots keep their content.
 // Rules 1, 2 and 3, then 11 where the lent row has fewer than 65 slots; a refusal alters nothing.
 #[unsafe(no_mangle)]
 pub extern "C" fn wimpleclay_read_problem(text: &[u8], coefficients: &mut [i64]) -> ReadAnswer
-    ensures answer { result ≡ read_answer (row_checked (problem_of text.now).read (length coefficients.old)) }
+    ensures answer { result ≡ read_answer (row_checked (problem_of text.now) (length coefficients.old)) }
     ensures coefficients { coefficients.new
-        ≡ filled (read_verdict (row_checked (problem_of text.now).read (length coefficients.old)))
-        (problem_of text.now).coefficients coefficients.old }
+        ≡ row_after (row_checked (problem_of text.now) (length coefficients.old)) coefficients.old }
 {
-    let problem = text::read_problem(text);
-    let given = problem.read;
-    let read = check_row(given, coefficients.len());
-    let Read::Refused(_) = read else {
-        let row = problem.coefficients;
-        put_row(row, coefficients);
-        return read_answer(read);
-    };
-    read_answer(read)
+    read_into(text, coefficients).into()
 }

@@ -3,7 +3,8 @@ ghost use Rattle.std.specs.Prelude.{◌≡◌};
 ghost use Rattle.solver.specs.Solve.{lists as lists_of, solved_of, lists_after};
 ghost use Rattle.capi.specs.Answers.{solve_answer};
 
-use solver::Solved;
+use refusal::Refusal;
+use solver::Found;
 
 #[repr(C)]
 #[derive(Clone, Copy)]
@@ -15,28 +16,26 @@ pub struct SolveAnswer {
     pub live: u64,
 }
 
-fn solve_answer(solved: Solved) -> SolveAnswer
-    ensures { result ≡ solve_answer solved }
-{
-    match solved {
-        Solved::Found {
-            classes,
-            roots,
-            live,
-        } => SolveAnswer {
-            number: 0,
-            place: 0,
-            classes,
-            roots,
-            live,
-        },
-        Solved::Refused(r) => SolveAnswer {
-            number: r.number(),
-            place: r.place(),
-            classes: 0,
-            roots: 0,
-            live: 0,
-        },
+impl From<Result<Found, Refusal>> for SolveAnswer {
+    ghost from_gives = { λ solved answer. answer ≡ solve_answer solved };
+
+    fn from(solved: Result<Found, Refusal>) -> SolveAnswer {
+        match solved {
+            Ok(found) => SolveAnswer {
+                number: 0,
+                place: 0,
+                classes: found.classes,
+                roots: found.roots,
+                live: found.live,
+            },
+            Err(r) => SolveAnswer {
+                number: r.number(),
+                place: r.place(),
+                classes: 0,
+                roots: 0,
+                live: 0,
+            },
+        }
     }
 }
 
@@ -56,5 +55,5 @@ pub extern "C" fn wimpleclay_solve(
         ≡ lists_after coefficients.now p n
         (lists_of residues.old levels.old marks.old) }
 {
-    solve_answer(solver::solve(coefficients, p, n, residues, levels, marks))
+    solver::solve(coefficients, p, n, residues, levels, marks).into()
 }

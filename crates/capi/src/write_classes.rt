@@ -6,7 +6,7 @@ ghost use Rattle.writer.specs.Output.{output_text};
 ghost use Rattle.writer.specs.Written.{writer_verdict, written_of};
 ghost use Rattle.capi.specs.Answers.{write_answer};
 
-use writer::Written;
+use refusal::Refusal;
 
 #[repr(C)]
 #[derive(Clone, Copy)]
@@ -16,20 +16,22 @@ pub struct WriteAnswer {
     pub bytes: usize,
 }
 
-fn write_answer(written: Written) -> WriteAnswer
-    ensures { result ≡ write_answer written }
-{
-    match written {
-        Written::Bytes(bytes) => WriteAnswer {
-            number: 0,
-            place: 0,
-            bytes,
-        },
-        Written::Refused(r) => WriteAnswer {
-            number: r.number(),
-            place: r.place(),
-            bytes: 0,
-        },
+impl From<Result<usize, Refusal>> for WriteAnswer {
+    ghost from_gives = { λ written answer. answer ≡ write_answer written };
+
+    fn from(written: Result<usize, Refusal>) -> WriteAnswer {
+        match written {
+            Ok(bytes) => WriteAnswer {
+                number: 0,
+                place: 0,
+                bytes,
+            },
+            Err(r) => WriteAnswer {
+                number: r.number(),
+                place: r.place(),
+                bytes: 0,
+            },
+        }
     }
 }
 
@@ -49,5 +51,5 @@ pub extern "C" fn wimpleclay_write_classes(
         ≡ filled (writer_verdict p n residues.now levels.now marks.now (length text.old))
         (output_text p n (classes_of residues.now levels.now) marks.now) text.old }
 {
-    write_answer(writer::write_classes(p, n, residues, levels, marks, text))
+    writer::write_classes(p, n, residues, levels, marks, text).into()
 }
