@@ -2,49 +2,38 @@
 // place, or the classes. A text ends before a =, which a note follows to the line's end.
 #![tactic(auto)]
 
+ghost use Rattle.std.specs.Prelude.{◌≤◌, length};
+
 use std::io;
 
 // Prints the number of a text and what is printed for it.
-fn show(rt: &impl Print, number: u64, text: &[u8]) -> io::Result<()> {
+fn show(rt: &impl Print, number: usize, text: &[u8]) -> io::Result<()> {
     let mut out = [0u8; 2925];
     let bytes = program::print_whole(text, &mut out);
     print!(rt; "{number}")?;
     rt.write_all(&out[..bytes])
 }
 
-// The place of the next such byte, from a place on.
-fn place_of(byte: u8, input: &[u8], from: usize) -> usize {
-    let mut i = from;
-    while i < input.len() {
-        if input[i] == byte {
-            return i;
-        }
-        i += 1;
-    }
-    i
+// The place of the next such byte from a place on, and the end where there is none.
+fn place_of(byte: u8, input: &[u8], from: usize) -> usize
+    requires { from ≤ length input.now }
+    ensures { (from ≤ result) × (result ≤ length input.now) }
+{
+    input[from..]
+        .iter()
+        .position(|b| *b == byte)
+        .map_or(input.len(), |i| from + i)
 }
 
-// A part of the input.
-fn part(input: &[u8], from: usize, to: usize) -> &[u8] {
-    if from <= to {
-        if to <= input.len() {
-            return &input[from..to];
-        }
-    }
-    input
-}
-
-// All texts, which are fewer than a thousand.
+// All texts, of which there are at most a thousand.
 fn show_all(rt: &impl Print, input: &[u8]) -> io::Result<()> {
-    let mut at: usize = 0;
-    let mut number: u64 = 0;
-    while number < 1000 {
+    let mut at = 0;
+    for number in 1..1001 {
         if input.len() <= at {
-            return Ok(());
+            break;
         }
-        number += 1;
         let end = place_of(b'=', input, at);
-        show(rt, number, part(input, at, end))?;
+        show(rt, number, &input[at..end])?;
         at = place_of(b'\n', input, end) % 65536 + 1;
     }
     Ok(())

@@ -1,4 +1,5 @@
 -- The writer takes the solver's list: of its rules only the one on the buffer's length is left.
+use Rattle.std.specs.Prelude.{Ok}
 use mathlib.Core.Path.{◌≡◌, refl, sym, ap, ◌∙◌}
 use mathlib.Core.List.{List, [], ◌∷◌, map}
 use Prim.Native.Nat.{ℕ, zero, suc, min, ◌≤◌}
@@ -10,7 +11,6 @@ use Rattle.theory.specs.SignedClass.{SignedClass, natural, residues_of, levels_o
 use Rattle.theory.specs.Polynomial.{roots}
 use Rattle.theory.specs.Mark.{mark}
 use Rattle.refusal.specs.Rules.{rule12}
-use Rattle.numbers.specs.declared.Modulus.TheVariants.{Accepted}
 use Rattle.numbers.specs.inner.Usable.{Usable}
 use Rattle.solver.specs.Solve.{solution, marks_of}
 use Rattle.classes.specs.Rule7.{classes_of, mark_above, first_fault}
@@ -55,7 +55,7 @@ module _ (f : List ℤ) (p n m : ℕ) (U : Usable p n m) where
   no-fault =
       rw (classes_of_parts L) (sym (faultless-first p n L (list-faultless (roots f p n) p n U.prime.two)))
 
-  pub solution-accepted : marked_checked_of p n (residues_of (solution f p n)) (levels_of (solution f p n)) (marks_of f p n) ≡ Accepted m
+  pub solution-accepted : marked_checked_of p n (residues_of (solution f p n)) (levels_of (solution f p n)) (marks_of f p n) ≡ Ok m
   solution-accepted =
       let small : (c : SignedClass) → mark f p n (natural p c) ≤ 2 = λ c. mark_most f p n (natural p c) (prime_pos U.prime) in
       let high = no_high_mark (marks_of f p n) (marks_small (λ (c : SignedClass). mark f p n (natural p c)) small L) in

@@ -1,4 +1,6 @@
 -- Every number that the program prints fits its column.
+use Rattle.std.specs.Prelude.{Result, Ok, Err}
+use Rattle.refusal.specs.declared.Refusal.{Refusal}
 use mathlib.Core.Path.{◌≡◌, refl}
 use mathlib.Core.List.{List}
 use Prim.Native.Nat.{ℕ, ◌^◌}
@@ -14,8 +16,7 @@ use Rattle.numbers.proofs.Places.{modulus-place}
 use Rattle.solver.specs.Solve.{solution, marks_of}
 use Rattle.classes.proofs.Entries.{classes_of_parts}
 use Rattle.classes.proofs.MarkedChecks.{marked-accepted}
-use Rattle.text.specs.declared.Read.{Read}
-use Rattle.text.specs.declared.Read.TheVariants.{Given, Refused}
+use Rattle.text.specs.declared.Problem.{Problem}
 use Rattle.text.specs.Form.{problem_of}
 use Rattle.text.proofs.Places.{text-place}
 use Rattle.writer.specs.Fits.{OutputFits, FitsOr}
@@ -40,8 +41,8 @@ module _ (f : List ℤ) (p n : ℕ) where
       go (refuses r) e h = refusal_fits r (omega arith)
 
 pub printed_fits_columns : (text : List ℕ) → PrintedFits text
-printed_fits_columns text = go (problem_of text).read refl
+printed_fits_columns text = go (problem_of text) refl
   where
-    go : (a : Read) → (problem_of text).read ≡ a → FitsFor a (problem_of text).coefficients
-    go (Given p n c end) e = solved-fits (take c (problem_of text).coefficients) p n
-    go (Refused r) e = refusal_fits r (omega (arith, text-place text r e))
+    go : (a : Result Problem Refusal) → problem_of text ≡ a → FitsFor a
+    go (Ok P) e = solved-fits (take P.count P.coefficients) P.p P.n
+    go (Err r) e = refusal_fits r (omega (arith, text-place text r e))

@@ -4,10 +4,9 @@ use mathlib.Core.Path.{◌≡◌, ap}
 use mathlib.Core.List.{List}
 use Prim.Native.Nat.{ℕ, ◌≤◌}
 use lib.ListN.{take}
-use Rattle.text.specs.declared.Problem.{Problem}
 use Rattle.text.proofs.Enough.{problem_same}
 use Rattle.program.specs.Printed.{printed_for, printed_text}
 
 pub printed_same : (m : ℕ) → 1400 ≤ m → (text : List ℕ) → printed_text (take m text) ≡ printed_text text
 unfolding printed_text
-printed_same m long text = ap (λ (P : Problem). printed_for P.read P.coefficients) (problem_same m long text)
+printed_same m long text = ap printed_for (problem_same m long text)

@@ -9,7 +9,6 @@ use Rattle.numbers.specs.inner.Usable.{Usable}
 use Rattle.numbers.proofs.Rules.{usable_leads}
 use Rattle.refusal.specs.Rules.{Verdict}
 use Rattle.solver.specs.Solve.{solution, marks_of}
-use Rattle.text.specs.declared.Problem.{Problem}
 use Rattle.text.specs.Input.{input_text}
 use Rattle.text.proofs.Input.{Readable, input_is_read}
 use Rattle.writer.specs.Output.{output_text, text_or}
@@ -19,7 +18,7 @@ use Rattle.program.specs.Printed.{judged, solved_text, printed_for, printed_text
 pub printed_of_input : (p n : ℕ) (f : List ℤ) → Readable p n f → printed_text (input_text p n f) ≡ solved_text f p n
 unfolding printed_text
 printed_of_input p n f R =
-    ap (λ (P : Problem). printed_for P.read P.coefficients) (input_is_read p n f R)
+    ap printed_for (input_is_read p n f R)
     ∙ ap (λ (l : List ℤ). solved_text l p n) (take_at f (replicate (65 - length f) (pos 0)) (length f) refl)
 
 -- and where p and n are accepted, its classes

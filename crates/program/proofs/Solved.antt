@@ -1,4 +1,5 @@
 -- The answer to a problem that is read, from what the solver and the writer say.
+use Rattle.std.specs.Prelude.{Result, Ok, Err}
 use mathlib.Core.Path.{◌≡◌, refl, sym, ap, ap₂, ◌∙◌}
 use mathlib.Core.List.{List}
 use Prim.Native.Nat.{ℕ, ◌+◌, ◌*◌, ◌^◌, ◌≤◌, ◌<◌}
@@ -7,18 +8,17 @@ use lib.IntN.{ℤ}
 use lib.ListN.{length}
 use Rattle.theory.specs.SignedClass.{SignedClass, residues_of, levels_of}
 use Rattle.refusal.specs.declared.Refusal.{Refusal}
-use Rattle.refusal.specs.Rules.{Verdict, passes, filled}
+use Rattle.refusal.specs.Rules.{Verdict, passes, filled, value_or}
 use Rattle.numbers.specs.inner.Usable.{Usable}
 use Rattle.numbers.proofs.Rules.{passes-usable}
-use Rattle.solver.specs.declared.Solved.TheVariants.{Found, Refused}
+use Rattle.solver.specs.declared.Found.{Found}
 use Rattle.solver.specs.Solve.{Lists, solution, solver_verdict, solved_of, marks_of}
 use Rattle.solver.proofs.Answered.{refused-verdict, found-passes}
 use Rattle.solver.proofs.Few.{Slots64, verdict_of_modulus, solution_few}
 use Rattle.classes.specs.Rule7.{classes_of}
 use Rattle.classes.proofs.Entries.{classes_of_parts}
-use Rattle.writer.specs.declared.Written.{Written}
 use Rattle.writer.specs.Output.{output_text, refusal_line, text_or}
-use Rattle.writer.specs.Written.{bytes_or, writer_verdict, written_of, refusal_verdict, refusal_written_of}
+use Rattle.writer.specs.Written.{writer_verdict, written_of, refusal_verdict, refusal_written_of}
 use Rattle.writer.proofs.Line.{refusal_length}
 use Rattle.program.specs.Printed.{judged, solved_text, buffer_verdict, written_in}
 use Rattle.program.proofs.Lengths.{output_length}
@@ -35,7 +35,7 @@ module _ (r : Refusal) (bytes : ℕ) where
   module _ (t : List ℕ) (line : t ≡ refusal_line r) where
     pub refusal-answer : refusal_written_of bytes ≡ written_in t bytes
     unfolding refusal_written_of
-    refusal-answer = ap₂ bytes_or refusal-verdict (sym (refusal_length r)) ∙ ap (λ (l : List ℕ). written_in l bytes) (sym line)
+    refusal-answer = ap₂ value_or refusal-verdict (sym (refusal_length r)) ∙ ap (λ (l : List ℕ). written_in l bytes) (sym line)
 
     pub refusal-text : (old : List ℕ) → filled (refusal_verdict bytes) (refusal_line r) old ≡ filled (buffer_verdict t bytes) t old
     refusal-text old =
@@ -51,11 +51,11 @@ module _ (f : List ℤ) (p n : ℕ) (some : 0 < length f) (few : length f ≤ 65
     verdict-judged = verdict_of_modulus f p n some few given slots
 
     -- where the solver found the list, p and n are accepted
-    pub found : {k c l : ℕ} → solved_of f p n given ≡ Found k c l → judged p n ≡ passes
-    found e = sym verdict-judged ∙ found-passes f p n given e
+    pub judged-passes : (F : Found) → solved_of f p n given ≡ Ok F → judged p n ≡ passes
+    judged-passes F e = sym verdict-judged ∙ found-passes f p n given {k = F.classes} {c = F.roots} {l = F.live} e
 
     -- and where it refused
-    pub refused : (r : Refusal) → solved_of f p n given ≡ Refused r → solved_text f p n ≡ refusal_line r
+    pub refused : (r : Refusal) → solved_of f p n given ≡ Err r → solved_text f p n ≡ refusal_line r
     unfolding solved_text
     refused r e =
         ap (λ (v : Verdict). text_or v (output_text p n (solution f p n) (marks_of f p n)))
@@ -92,7 +92,7 @@ module _ (f : List ℤ) (p n : ℕ) (some : 0 < length f) (few : length f ≤ 65
         ≡ written_in (solved_text f p n) bytes
     unfolding written_of
     written-answer bytes =
-        ap₂ bytes_or (verdict-is bytes)
+        ap₂ value_or (verdict-is bytes)
         (ap (λ (k : ℕ). 45 * (k + 1)) (residues-length f p n (p ^ n) accepted-usable) ∙ sym block-length)
         ∙ ap (λ (t : List ℕ). written_in t bytes) (sym text-is)
 
@@ -108,7 +108,8 @@ module _ (f : List ℤ) (p n : ℕ) (some : 0 < length f) (few : length f ≤ 65
     -- the writer on these lists
     module _ (residues : List ℤ) (levels marks : List ℕ) (er : residues ≡ residues_of (solution f p n))
         (el : levels ≡ levels_of (solution f p n)) (em : marks ≡ marks_of f p n) where
-      pub block-answer : (r : Written) (bytes : ℕ) → r ≡ written_of p n residues levels marks bytes → r ≡ written_in (solved_text f p n) bytes
+      pub block-answer : (r : Result ℕ Refusal) (bytes : ℕ) → r ≡ written_of p n residues levels marks bytes
+          → r ≡ written_in (solved_text f p n) bytes
       block-answer r bytes e =
           let w : r ≡ written_of p n (residues_of (solution f p n)) (levels_of (solution f p n)) (marks_of f p n) bytes =
           rw (er, el, em) at e in

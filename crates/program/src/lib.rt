@@ -5,9 +5,7 @@ ghost use Rattle.std.specs.Prelude.{◌≡◌, ◌++◌, ◌≤◌, ◌<◌, len
 ghost use Rattle.refusal.specs.Rules.{filled};
 ghost use Rattle.program.specs.Printed.{solved_text, printed_text, buffer_verdict, written_in};
 
-use solver::Solved;
-use text::Read;
-use writer::Written;
+use refusal::Refusal;
 
 mod reading;
 
@@ -16,28 +14,23 @@ pub use reading::read_full;
 // What is printed for a problem text, in the first bytes of `out`: the block of its root classes, or the line of the refusal; later bytes
 // keep their content. It answers how many bytes it wrote. Where `out` has fewer bytes than that, it is refused by rule 12, with their
 // number as the place, and nothing is written.
-pub fn print(text: &[u8], out: &mut [u8]) -> Written
+pub fn print(text: &[u8], out: &mut [u8]) -> Result<usize, Refusal>
     ensures answer { result ≡ written_in (printed_text text.now) (length out.old) }
     ensures out { out.new
         ≡ filled (buffer_verdict (printed_text text.now) (length out.old)) (printed_text text.now)
         out.old }
 {
-    let problem = text::read_problem(text);
-    let read = problem.read;
-    let row = problem.coefficients;
-    match read {
-        Read::Given {
-            p,
-            n,
-            count,
-            end: _,
-        } => print_problem(&row[..count], p, n, out),
-        Read::Refused(r) => writer::write_refusal(r, out),
+    match text::read_problem(text) {
+        Ok(problem) => {
+            let f = &problem.coefficients[..problem.count];
+            print_problem(f, problem.p, problem.n, out)
+        }
+        Err(r) => writer::write_refusal(r, out),
     }
 }
 
 // The same for a problem that is read. 64 slots are enough for the classes of any polynomial with 65 coefficients.
-fn print_problem(coefficients: &[i64], p: u32, n: u32, out: &mut [u8]) -> Written
+fn print_problem(coefficients: &[i64], p: u32, n: u32, out: &mut [u8]) -> Result<usize, Refusal>
     requires { (0 < length coefficients.now) × (length coefficients.now ≤ 65) }
     ensures answer { result ≡ written_in (solved_text coefficients.now p n) (length out.old) }
     ensures out { out.new
@@ -48,19 +41,11 @@ fn print_problem(coefficients: &[i64], p: u32, n: u32, out: &mut [u8]) -> Writte
     let mut levels = [0u8; 64];
     let mut marks = [0u8; 64];
     match solver::solve(coefficients, p, n, &mut residues, &mut levels, &mut marks) {
-        Solved::Found {
-            classes,
-            roots: _,
-            live: _,
-        } => writer::write_classes(
-            p,
-            n,
-            &residues[..classes],
-            &levels[..classes],
-            &marks[..classes],
-            out,
-        ),
-        Solved::Refused(r) => writer::write_refusal(r, out),
+        Ok(found) => {
+            let k = found.classes;
+            writer::write_classes(p, n, &residues[..k], &levels[..k], &marks[..k], out)
+        }
+        Err(refusal) => writer::write_refusal(refusal, out),
     }
 }
 
@@ -71,8 +56,5 @@ pub fn print_whole(text: &[u8], out: &mut [u8; 2925]) -> usize
         ≡ printed_text text.now ++ drop (length (printed_text text.now)) out.old }
     ensures counts { (result ≤ length out.new) × (result ≡ length (take result out.new)) }
 {
-    match print(text, out) {
-        Written::Bytes(bytes) => bytes,
-        Written::Refused(_) => 0,
-    }
+    print(text, out).unwrap()
 }

@@ -1,4 +1,5 @@
 -- Every number that the report prints fits its column.
+use Rattle.std.specs.Prelude.{Result, Ok, Err}
 use mathlib.Core.Path.{◌≡◌, refl}
 use mathlib.Core.List.{List, [], ◌∷◌}
 use Prim.Native.Nat.{ℕ, zero, suc, ◌+◌, ◌≤◌, ◌<◌}
@@ -12,8 +13,7 @@ use Rattle.refusal.specs.Rules.{Verdict, passes, refuses, tried}
 use Rattle.refusal.proofs.Places.{PlaceAtMost}
 use Rattle.numbers.specs.Modulus.{modulus_rules}
 use Rattle.numbers.proofs.Places.{modulus-place}
-use Rattle.text.specs.declared.Read.{Read}
-use Rattle.text.specs.declared.Read.TheVariants.{Given, Refused}
+use Rattle.text.specs.declared.Problem.{Problem}
 use Rattle.text.specs.Form.{problem_at}
 use Rattle.text.proofs.Places.{front-place}
 use Rattle.text.proofs.Front.{given-told}
@@ -50,42 +50,39 @@ module _ (s : Totals) (small : Small s) where
 
   -- the problem at the front
   module _ (left : List ℕ) where
-    refused-fits : (r : Refusal) → (problem_at left 0).read ≡ Refused r → RefusalFits (from_start s.at r)
-    refused-fits r e =
+    refused-fits : (r : Refusal) → problem_at left 0 ≡ Err r → RefusalFits (from_start s.at r)
+    refused-fits r is =
         refusal_fits (from_start s.at r)
-        (omega (arith, small.few, small.short, from_start_place s.at r, front-place left r e))
+        (omega (arith, small.few, small.short, from_start_place s.at r, front-place left r is))
 
     given-fits : (Rest : Totals → List ℕ → Type 0) → s.problems < 1000
         → ((t : Totals) → Small t → t.problems ≡ s.problems + 1 → (l : List ℕ) → Rest t l)
-        → (p n c end : ℕ) (row : List ℤ) → (problem_at left 0).read ≡ Given p n c end
-        → FitsBy Rest s left (Given p n c end) row
-    given-fits Rest room rest p n c end row e = go (tried (modulus_rules p n)) refl (modulus-place p n)
+        → (P : Problem) → problem_at left 0 ≡ Ok P → FitsBy Rest s left (Ok P)
+    given-fits Rest room rest P is = go (tried (modulus_rules P.p P.n)) refl (modulus-place P.p P.n)
       where
         f : List ℤ
-        f = take c row
+        f = take P.count P.coefficients
 
-        go : (v : Verdict) → tried (modulus_rules p n) ≡ v → PlaceAtMost 65535 v
-            → FitsOr v (RowFits (count_row f p n) × Rest (after s end (solutions f p n)) (drop end left))
+        go : (v : Verdict) → tried (modulus_rules P.p P.n) ≡ v → PlaceAtMost 65535 v
+            → FitsOr v (RowFits (count_row f P.p P.n) × Rest (after s P.end (solutions f P.p P.n)) (drop P.end left))
         go passes pass h =
-            let T = given-told left p n c end e in
-            let short : end ≤ 1399 = omega (arith, T.end_is, T.few_coefficients) in
-            let t = after_small s end (solutions f p n) small room short (roots_few f p n pass) in (
-              row_fits (count_row f p n) (λ i h. omega (arith, row-few f p n pass i h)),
-              rest (after s end (solutions f p n)) t refl (drop end left),
+            let T = given-told left P is in
+            let short : P.end ≤ 1399 = omega (arith, T.end_is, T.few_coefficients) in
+            let t = after_small s P.end (solutions f P.p P.n) small room short (roots_few f P.p P.n pass) in (
+              row_fits (count_row f P.p P.n) (λ i h. omega (arith, row-few f P.p P.n pass i h)),
+              rest (after s P.end (solutions f P.p P.n)) t refl (drop P.end left),
             )
         go (refuses r) pass h = refusal_fits r (omega arith)
 
 from_fits : (more : ℕ) (s : Totals) (left : List ℕ) → Small s → s.problems + more ≤ 1000 → FitsFrom more s left
 from_fits zero s left small h = or-last s small left (RefusalFits (TooManyProblems s.at)) (too-many-fits s small)
 from_fits (suc more) s left small h =
-    or-last s small left _
-    (go (λ t st e l. from_fits more t l st (omega arith)) (problem_at left 0).read (problem_at left 0).coefficients refl)
+    or-last s small left _ (go (λ t st e l. from_fits more t l st (omega arith)) (problem_at left 0) refl)
   where
     go : ((t : Totals) → Small t → t.problems ≡ s.problems + 1 → (l : List ℕ) → FitsFrom more t l)
-        → (a : Read) (row : List ℤ) → (problem_at left 0).read ≡ a → FitsBy (λ s' left'. FitsFrom more s' left') s left a row
-    go rest (Given p n c end) row e =
-        given-fits s small left (λ s' left'. FitsFrom more s' left') (omega arith) rest p n c end row e
-    go rest (Refused r) row e = refused-fits s small left r e
+        → (a : Result Problem Refusal) → problem_at left 0 ≡ a → FitsBy (λ s' left'. FitsFrom more s' left') s left a
+    go rest (Ok P) is = given-fits s small left (λ s' left'. FitsFrom more s' left') (omega arith) rest P is
+    go rest (Err r) is = refused-fits s small left r is
 
 pub report_fits_columns : (text : List ℕ) → ReportFits text
 report_fits_columns text = from_fits 1000 start text start_small (omega arith)

@@ -9,5 +9,4 @@ pub mod Examples
 pub mod Written
 pub mod Solved
 pub mod Steps
-pub mod Shifted
 pub mod Turns

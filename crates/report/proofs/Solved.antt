@@ -1,4 +1,5 @@
 -- A problem that is read: its line, from what the solver and the writer say.
+use Rattle.std.specs.Prelude.{Result, Ok, Err}
 use mathlib.Core.Path.{◌≡◌, refl, sym, ap, ap₂, ◌∙◌}
 use mathlib.Core.List.{List, [], ◌∷◌, ◌++◌}
 use Prim.Native.Nat.{ℕ, suc, ◌+◌, ◌≤◌, ◌<◌}
@@ -9,12 +10,10 @@ use lib.Seq.{take_at}
 use Rattle.theory.specs.Counts.{solutions, count_row}
 use Rattle.theory.proofs.Counts.{row_length, row_at}
 use Rattle.refusal.specs.declared.Refusal.{Refusal}
-use Rattle.refusal.specs.Rules.{Verdict, passes, refuses, tried, filled, rule11}
-use Rattle.refusal.proofs.Rules.{rule11_passes, coefficients_lead, tried_leads, tried_refuses}
+use Rattle.refusal.specs.Rules.{Verdict, passes, refuses, tried, filled, rule11, value_or}
+use Rattle.refusal.proofs.Rules.{rule11_passes, coefficients_lead, tried_leads, tried_refuses, value_passes, value_refuses}
 use Rattle.numbers.specs.Modulus.{modulus_rules}
-use Rattle.solver.specs.declared.Tabulated.{Tabulated}
-use Rattle.solver.specs.declared.Tabulated.TheVariants as tabulated
-use Rattle.solver.specs.Counts.{counts_verdict, filled_or, tabulated_of, counts_after}
+use Rattle.solver.specs.Counts.{counts_verdict, tabulated_of, counts_after}
 use Rattle.writer.specs.Output.{refusal_line, row_line}
 use Rattle.report.specs.declared.step.Totals.{Totals}
 use Rattle.report.specs.declared.step.Stepped.TheVariants.{Line, Stop}
@@ -39,14 +38,6 @@ module _ (s : Totals) (f : List ℤ) (p n end : ℕ) where
 
 -- What the solver says
 
-filled_means : (v : Verdict) → filled_or v ≡ tabulated.Filled → v ≡ passes
-filled_means passes e = refl
-filled_means (refuses r) e = let z : ◌≡◌ {A = ℕ} 0 1 = cc e in absurd (omega arith)
-
-refused_means : (v : Verdict) (r : Refusal) → filled_or v ≡ tabulated.Refused r → v ≡ refuses r
-refused_means passes r e = let z : ◌≡◌ {A = ℕ} 0 1 = cc e in absurd (omega arith)
-refused_means (refuses s) r e = let same : s ≡ r = cc e in ap refuses same
-
 -- a row of slots that the solver filled
 pub record FilledRow (f : List ℤ) (p n : ℕ) (row : List ℕ) : Type 0 where
   pub passed : tried (modulus_rules p n) ≡ passes
@@ -69,16 +60,16 @@ module _ (f : List ℤ) (p n : ℕ) (some : 0 < length f) (few : length f ≤ 65
       coefficients_lead (length f) (λ e. omega arith) few (modulus_rules p n ++ rule11 (length old) (suc n) ∷ [])
       ∙ rows-enough (tried (modulus_rules p n)) refl
 
-  module _ (a : Tabulated) (answer-is : a ≡ tabulated_of f p n (length old)) where
-    answer : a ≡ filled_or (tried (modulus_rules p n))
+  module _ (a : Result Unit Refusal) (answer-is : a ≡ tabulated_of f p n (length old)) where
+    answer : a ≡ value_or (tried (modulus_rules p n)) (tt {0})
     unfolding tabulated_of
-    answer = answer-is ∙ ap filled_or verdict-is
+    answer = answer-is ∙ ap (λ (v : Verdict). value_or v (tt {0})) verdict-is
 
-    pub filled-passes : a ≡ tabulated.Filled → tried (modulus_rules p n) ≡ passes
-    filled-passes e = filled_means (tried (modulus_rules p n)) (sym answer ∙ e)
+    pub filled-passes : a ≡ Ok (tt {0}) → tried (modulus_rules p n) ≡ passes
+    filled-passes e = (value_passes (tried (modulus_rules p n)) tt tt (sym answer ∙ e)).0
 
-    pub refused-refuses : (r : Refusal) → a ≡ tabulated.Refused r → tried (modulus_rules p n) ≡ refuses r
-    refused-refuses r e = refused_means (tried (modulus_rules p n)) r (sym answer ∙ e)
+    pub refused-refuses : (r : Refusal) → a ≡ Err r → tried (modulus_rules p n) ≡ refuses r
+    refused-refuses r e = value_refuses (tried (modulus_rules p n)) tt r (sym answer ∙ e)
 
   -- the row after a call that passes
   module _ (now : List ℕ) (now-is : now ≡ counts_after f p n old) (pass : tried (modulus_rules p n) ≡ passes) where

@@ -1,4 +1,5 @@
 -- What a step and the end of the text answer, from what the reader gives.
+use Rattle.std.specs.Prelude.{Ok, Err}
 use mathlib.Core.Path.{◌≡◌, sym, ap, ◌∙◌}
 use mathlib.Core.Bool.{Bool, cond}
 use mathlib.Core.List.{List, []}
@@ -13,8 +14,6 @@ use Rattle.refusal.specs.declared.Refusal.{Refusal}
 use Rattle.refusal.specs.Number.{place_of}
 use Rattle.refusal.specs.Rules.{Verdict, passes, refuses, tried}
 use Rattle.numbers.specs.Modulus.{modulus_rules}
-use Rattle.text.specs.declared.Read.{Read}
-use Rattle.text.specs.declared.Read.TheVariants.{Given, Refused}
 use Rattle.text.specs.declared.Problem.{Problem}
 use Rattle.text.specs.Form.{problem_at}
 use Rattle.text.proofs.Front.{Told, given-told}
@@ -43,34 +42,24 @@ never_waits s f p n end e = go (tried (modulus_rules p n)) e
 
 -- a row of which c coefficients are read, from a problem of so many bytes
 pub record GivenRow (row : List ℤ) (c end : ℕ) : Type 0 where
-  pub long : c ≤ length row
+  pub within : c ≤ 65
   pub counted : c ≡ length (take c row)
   pub some : 0 < length (take c row)
   pub few : length (take c row) ≤ 65
   pub short : end ≤ 1399
 
--- the bytes w hold a byte, and P is the problem at their front
-module _ (s : Totals) (w : List ℕ) (some : length w ≡ 0 → ⊥) (P : Problem) (is : P ≡ problem_at w 0) where
-  read_is : (a : Read) → P.read ≡ a → (problem_at w 0).read ≡ a
-  read_is a e = ap (λ (Q : Problem). Q.read) (sym is) ∙ e
+-- the bytes w hold a byte
+module _ (s : Totals) (w : List ℕ) (some : length w ≡ 0 → ⊥) where
+  -- the problem P at their front
+  module _ (P : Problem) (is : problem_at w 0 ≡ Ok P) where
+    told : Told P w
+    told = given-told w P is
 
-  by_read : s.problems < 1000 → (a : Read) → P.read ≡ a → outcome s w ≡ outcome_by s w a P.coefficients
-  by_read room a e =
-      by_problem s w some room
-      ∙ ap (λ (Q : Problem). outcome_by s w Q.read Q.coefficients) (sym is)
-      ∙ ap (λ (b : Read). outcome_by s w b P.coefficients) e
-
-  -- Where it is read
-
-  module _ (p n c end : ℕ) (given : P.read ≡ Given p n c end) where
-    told : Told P w c end
-    told = rw is (given-told w p n c end (read_is (Given p n c end) given))
-
-    pub given-row : GivenRow P.coefficients c end
+    pub given-row : GivenRow P.coefficients P.count P.end
     given-row =
-        let counted : c ≡ length (take c P.coefficients) = sym (length-take-le c P.coefficients told.row_long) in
+        let counted : P.count ≡ length (take P.count P.coefficients) = sym (length-take-le P.count P.coefficients told.row_long) in
         record {
-          long = told.row_long;
+          within = told.few_coefficients;
           counted = counted;
           some = omega (arith, counted, told.some_coefficient);
           few = omega (arith, counted, told.few_coefficients);
@@ -78,36 +67,41 @@ module _ (s : Totals) (w : List ℕ) (some : length w ≡ 0 → ⊥) (P : Proble
         }
 
     -- the answer to the problem is that of the step
-    pub given-step : s.problems < 1000 → (r : Stepped) (old now : List ℕ) → r ≡ step_of (outcome_of s (take c P.coefficients) p n end)
-        → now ≡ line_of (outcome_of s (take c P.coefficients) p n end) old → After s r end now
+    pub given-step : s.problems < 1000 → (r : Stepped) (old now : List ℕ)
+        → r ≡ step_of (outcome_of s (take P.count P.coefficients) P.p P.n P.end)
+        → now ≡ line_of (outcome_of s (take P.count P.coefficients) P.p P.n P.end) old → After s r P.end now
         → (r ≡ step_of (outcome s w)) × ((now ≡ line_of (outcome s w) old) × After s r (length w) now)
-    given-step room r old now answer line after = rw (by_read room (Given p n c end) given) (answer, (line, go r answer after))
+    given-step room r old now answer line after =
+        rw (by_problem s w some room ∙ ap (outcome_by s w) is) (answer, (line, go r answer after))
       where
-        go : (r : Stepped) → r ≡ step_of (outcome_of s (take c P.coefficients) p n end) → After s r end now → After s r (length w) now
+        go : (r : Stepped) → r ≡ step_of (outcome_of s (take P.count P.coefficients) P.p P.n P.end) → After s r P.end now
+            → After s r (length w) now
         go (Line t k size) e a = (a.0, (a.1.0, (omega (arith, a.1.1.0, told.inside), a.1.1.1)))
         go (Stop size) e a = a
-        go Wait e a = absurd (never_waits s (take c P.coefficients) p n end e)
+        go Wait e a = absurd (never_waits s (take P.count P.coefficients) P.p P.n P.end e)
 
     -- at the end of the text nothing is left of it
     pub given-ending : ending s w ≡ []
-    given-ending = ending-some s w some ∙ ap (ending_by s) (read_is (Given p n c end) given)
+    given-ending = ending-some s w some ∙ ap (ending_by s) is
 
-  -- Where it is refused
-
-  module _ (r : Refusal) (refused : P.read ≡ Refused r) where
+  -- the reader's refusal
+  module _ (r : Refusal) (is : problem_at w 0 ≡ Err r) where
     pub refused-place : place_of r ≤ 1399
-    refused-place = front-place w r (read_is (Refused r) refused)
+    refused-place = front-place w r is
 
     outcome-cond : (b : Bool) → Outcome Totals
     outcome-cond b = cond b wait (stop (refusal_line (from_start s.at r)))
 
+    by_refused : s.problems < 1000 → outcome s w ≡ outcome_by s w (Err r)
+    by_refused room = by_problem s w some room ∙ ap (outcome_by s w) is
+
     pub refused-short : s.problems < 1000 → length w < 1399 → outcome s w ≡ wait
     unfolding outcome-cond
-    refused-short room h = by_read room (Refused r) refused ∙ ap outcome-cond (lt-ltb (length w) 1399 h)
+    refused-short room h = by_refused room ∙ ap outcome-cond (lt-ltb (length w) 1399 h)
 
     pub refused-long : s.problems < 1000 → 1399 ≤ length w → outcome s w ≡ stop (refusal_line (from_start s.at r))
     unfolding outcome-cond
-    refused-long room h = by_read room (Refused r) refused ∙ ap outcome-cond (le-ltb (length w) 1399 h)
+    refused-long room h = by_refused room ∙ ap outcome-cond (le-ltb (length w) 1399 h)
 
     pub refused-ending : ending s w ≡ refusal_line (from_start s.at r)
-    refused-ending = ending-some s w some ∙ ap (ending_by s) (read_is (Refused r) refused)
+    refused-ending = ending-some s w some ∙ ap (ending_by s) is

@@ -1,17 +1,18 @@
 -- A turn: where the unused bytes lie after it, and that it is a step of `Run`.
+use Rattle.std.specs.Prelude.{Option, Some, None}
 use mathlib.Core.Path.{◌≡◌, refl, sym, ap, ◌∙◌}
 use mathlib.Core.List.{List, [], ◌∷◌, ◌++◌}
 use Prim.Native.Nat.{ℕ, ◌+◌, ◌-◌, ◌≤◌, ◌<◌}
 use native.Mathlib.Omega.{arith}
 use lib.ListN.{length, take, drop, length-take, length-drop}
-use lib.Seq.{length-take-le, take-add, drop_at, drop-drop}
+use lib.Seq.{paste, length-take-le, take-add, drop_at, drop-drop}
 use borrow.Rule.Slice.PartMut.{mid_of, put_mid, take_put}
+use Rattle.std.specs.List.{copy_within}
+use Rattle.std.proofs.lemmas.List.Edits.{take-paste}
 use Rattle.report.specs.declared.step.Totals.{Totals}
 use Rattle.report.specs.declared.step.Stepped.{Stepped}
 use Rattle.report.specs.declared.step.Stepped.TheVariants.{Line, Stop, Wait}
 use Rattle.report.specs.declared.Place.{Place}
-use Rattle.report.specs.declared.Next.{Next}
-use Rattle.report.specs.declared.Next.TheVariants.{Go, Done}
 use Rattle.report.specs.Run.{Outcome, next, stop, wait, Run}
 use Rattle.report.specs.Run.{line as run-line, stopped as run-stopped, more as run_more, ended as run-ended}
 use Rattle.report.specs.inner.Outcomes.{outcome, ending, step_of, Counted, After}
@@ -59,8 +60,8 @@ onward at t end = record { totals = t; from = at.from + end; to = at.to }
 pub record Lined (at : Place) (buffer row : List ℕ) (t : Totals) (end bytes : ℕ) : Type 0 where
   pub counted : Counted bytes row
   pub inside : at.from + end ≤ at.to
-  pub going : Going at (Go (onward at t end))
-  pub turned : Turned at.totals (unused at buffer) (Go (onward at t end)) buffer
+  pub going : Going at (Some (onward at t end))
+  pub turned : Turned at.totals (unused at buffer) (Some (onward at t end)) buffer
 
 module _ (at : Place) (buffer : List ℕ) (size : 65536 ≡ length buffer) (placed : Placed at) where
   abbrev s : Totals
@@ -97,7 +98,7 @@ module _ (at : Place) (buffer : List ℕ) (size : 65536 ≡ length buffer) (plac
         }
 
     -- the line that ends the report
-    pub stop-turn : (bytes : ℕ) → r ≡ Stop bytes → Counted bytes row × Turned at.totals (unused at buffer) Done buffer
+    pub stop-turn : (bytes : ℕ) → r ≡ Stop bytes → Counted bytes row × Turned at.totals (unused at buffer) None buffer
     stop-turn bytes is =
         let o = stop_means (outcome s w) bytes (sym is ∙ answer) in
         (rw is at after, stopped buffer o.0 o.1)
@@ -107,6 +108,16 @@ module _ (at : Place) (buffer : List ℕ) (size : 65536 ≡ length buffer) (plac
     wait-turn is =
         let few : length w < 1399 = rw is at after in
         (omega (arith, few, w-length, placed.ordered), wait_means (outcome s w) (sym is ∙ answer))
+
+  -- the unused bytes moved to the front
+  pub moved-front : (moved : List ℕ) → moved ≡ copy_within buffer at.from at.to 0
+      → take (at.to - at.from) moved ≡ take (at.to - at.from) (drop at.from buffer)
+  moved-front moved e =
+      let held = at.to - at.from in
+      let same : held ≡ 0 + held = omega arith in
+      ap (take held) e
+      ∙ ap (λ (k : ℕ). take k (paste buffer 0 (drop at.from buffer) held)) same
+      ∙ take-paste buffer 0 (drop at.from buffer) held (omega arith) (omega (arith, length-drop at.from buffer, placed.inside))
 
   -- A turn that waits: `moved` is the buffer with the unused bytes at its front, and a read puts `ys` behind them
 
@@ -145,7 +156,7 @@ module _ (at : Place) (buffer : List ℕ) (size : 65536 ≡ length buffer) (plac
           )
 
       pub more_turn : outcome at.totals (unused at buffer) ≡ wait
-          → Going at (Go to) × Turned at.totals (unused at buffer) (Go to) (put_mid held (length moved - held) moved ys)
+          → Going at (Some to) × Turned at.totals (unused at buffer) (Some to) (put_mid held (length moved - held) moved ys)
       more_turn e =
           let k : held + n - 0 ≡ held + n = omega arith in
           let grown : unused to now ≡ w ++ take n (drop held now) =
@@ -157,7 +168,7 @@ module _ (at : Place) (buffer : List ℕ) (size : 65536 ≡ length buffer) (plac
 -- Turns one after another are a `Run`
 
 -- what is written before the rest, and what is read for it
-pub turn_then_run : {s : Totals} {w : List ℕ} {r : Next} {buffer : List ℕ} → Turned s w r buffer → (at : Place) → r ≡ Go at
+pub turn_then_run : {s : Totals} {w : List ℕ} {r : Option Place} {buffer : List ℕ} → Turned s w r buffer → (at : Place) → r ≡ Some at
     → (lines : List ℕ) × ((read : List (List ℕ)) × ((pieces : List (List ℕ)) (out : List ℕ)
     → Run outcome ending at.totals (unused at buffer) pieces out → Run outcome ending s w (read ++ pieces) (lines ++ out)))
 turn_then_run {s} {w} (line to buffer l n e u) at is =
@@ -170,7 +181,7 @@ turn_then_run {s} {w} (more to buffer piece e t u) at is =
 turn_then_run (ended buffer e) at is = let z : ◌≡◌ {A = ℕ} 0 1 = cc is in absurd (omega arith)
 
 -- and what is written last
-pub turn_ends_run : {s : Totals} {w : List ℕ} {r : Next} {buffer : List ℕ} → Turned s w r buffer → r ≡ Done
+pub turn_ends_run : {s : Totals} {w : List ℕ} {r : Option Place} {buffer : List ℕ} → Turned s w r buffer → r ≡ None
     → (lines : List ℕ) × Run outcome ending s w [] lines
 turn_ends_run (line to buffer l n e u) is = let z : ◌≡◌ {A = ℕ} 0 1 = cc is in absurd (omega arith)
 turn_ends_run {s} {w} (stopped buffer l e) is = (l, run-stopped s w l [] e)

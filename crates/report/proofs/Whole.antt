@@ -1,5 +1,6 @@
 -- The report that the program writes is the report on the whole text, however the reads cut it.
-use mathlib.Core.Path.{◌≡◌, refl, sym, ap, ap₂, ◌∙◌}
+use Rattle.std.specs.Prelude.{Result, Ok, Err}
+use mathlib.Core.Path.{◌≡◌, refl, sym, ap, ◌∙◌}
 use mathlib.Core.Bool.{Bool, true, false, cond}
 use mathlib.Core.List.{List, [], ◌∷◌, ◌++◌}
 use Prim.Native.Nat.{ℕ, zero, suc, ◌+◌, ◌-◌, ◌≤◌, ◌<◌}
@@ -13,8 +14,7 @@ use Rattle.refusal.specs.declared.Refusal.{Refusal}
 use Rattle.refusal.specs.declared.Refusal.TheVariants.{TooManyProblems}
 use Rattle.refusal.specs.Rules.{Verdict, passes, refuses, tried}
 use Rattle.numbers.specs.Modulus.{modulus_rules}
-use Rattle.text.specs.declared.Read.{Read}
-use Rattle.text.specs.declared.Read.TheVariants.{Given, Refused}
+use Rattle.text.specs.declared.Problem.{Problem}
 use Rattle.text.specs.Form.{problem_at}
 use Rattle.text.proofs.Front.{given-told}
 use Rattle.writer.specs.Output.{refusal_line, text_or, row_line}
@@ -62,45 +62,42 @@ module _ (s : Totals) (w : List ℕ) (some : length w ≡ 0 → ⊥) where
     rest : Totals → List ℕ → List ℕ
     rest s' w' = report_from (1000 - (s.problems + 1)) s' w'
 
-    from-problem : (a : Read) (row : List ℤ) → (problem_at w 0).read ≡ a → (problem_at w 0).coefficients ≡ row → R s w ≡ report_by rest s w a row
+    from-problem : (a : Result Problem Refusal) → problem_at w 0 ≡ a → R s w ≡ report_by rest s w a
     unfolding report_from rest
-    from-problem a row e f =
+    from-problem a is =
         let k = 1000 - (s.problems + 1) in
         let z : 1000 - s.problems ≡ suc k = omega arith in
         ap (λ (j : ℕ). report_from j s w) z
-        ∙ or-last (report_by (λ s' w'. report_from k s' w') s w (problem_at w 0).read (problem_at w 0).coefficients)
-        ∙ ap₂ (λ (a : Read) (row : List ℤ). report_by (λ s' w'. report_from k s' w') s w a row) e f
+        ∙ or-last (report_by (λ s' w'. report_from k s' w') s w (problem_at w 0))
+        ∙ ap (report_by (λ s' w'. report_from k s' w') s w) is
 
     -- a problem that is read
-    says-given : (p n c end : ℕ) (row : List ℤ) → (problem_at w 0).read ≡ Given p n c end → (problem_at w 0).coefficients ≡ row
-        → Says s w (outcome_of s (take c row) p n end)
+    says-given : (P : Problem) → problem_at w 0 ≡ Ok P → Says s w (outcome_by s w (Ok P))
     unfolding outcome_of rest
-    says-given p n c end row e f = go (tried (modulus_rules p n)) (from-problem (Given p n c end) row e f)
+    says-given P is = go (tried (modulus_rules P.p P.n)) (from-problem (Ok P) is)
       where
+        f : List ℤ
+        f = take P.count P.coefficients
+
         lines : List ℕ
-        lines =
-            row_line (count_row (take c row) p n) ++ rest (after s end (solutions (take c row) p n)) (drop end w)
+        lines = row_line (count_row f P.p P.n) ++ rest (after s P.end (solutions f P.p P.n)) (drop P.end w)
 
         go : (v : Verdict) → R s w ≡ text_or v lines
-            → Says s w (next_or v (after s end (solutions (take c row) p n)) (row_line (count_row (take c row) p n)) end)
-        go passes h = (h, (given-told w p n c end e).inside)
+            → Says s w (next_or v (after s P.end (solutions f P.p P.n)) (row_line (count_row f P.p P.n)) P.end)
+        go passes h = (h, (given-told w P is).inside)
         go (refuses r) h = h
 
     -- one that is refused
-    says-refused : (r : Refusal) (row : List ℤ) → (problem_at w 0).read ≡ Refused r → (problem_at w 0).coefficients ≡ row
-        → Says s w (outcome_by s w (Refused r) row)
-    says-refused r row e f = go (ltb (length w) 1399) (from-problem (Refused r) row e f)
+    says-refused : (r : Refusal) → problem_at w 0 ≡ Err r → Says s w (outcome_by s w (Err r))
+    says-refused r is = go (ltb (length w) 1399) (from-problem (Err r) is)
       where
         go : (b : Bool) → R s w ≡ refusal_line (from_start s.at r) → Says s w (cond b wait (stop (refusal_line (from_start s.at r))))
-        go true h = h ∙ sym (ending-some s w some ∙ ap (ending_by s) e)
+        go true h = h ∙ sym (ending-some s w some ∙ ap (ending_by s) is)
         go false h = h
 
-    says-problem : Says s w (outcome_by s w (problem_at w 0).read (problem_at w 0).coefficients)
-    says-problem = go (problem_at w 0).read (problem_at w 0).coefficients refl refl
-      where
-        go : (a : Read) (row : List ℤ) → (problem_at w 0).read ≡ a → (problem_at w 0).coefficients ≡ row → Says s w (outcome_by s w a row)
-        go (Given p n c end) row e f = says-given p n c end row e f
-        go (Refused r) row e f = says-refused r row e f
+    says-problem : (a : Result Problem Refusal) → problem_at w 0 ≡ a → Says s w (outcome_by s w a)
+    says-problem (Ok P) is = says-given P is
+    says-problem (Err r) is = says-refused r is
 
 says : (s : Totals) (w : List ℕ) → Says s w (outcome s w)
 says s w = go (ℕ_discrete (length w) 0) (dec_le 1000 s.problems)
@@ -108,7 +105,7 @@ says s w = go (ℕ_discrete (length w) 0) (dec_le 1000 s.problems)
     go : Dec (length w ≡ 0) → Dec (1000 ≤ s.problems) → Says s w (outcome s w)
     go (yes e) d = rw (none_there s w e) (from_none (1000 - s.problems) s w e)
     go (no some) (yes h) = rw (too_many s w some h) (says-full s w some h)
-    go (no some) (no h) = rw (by_problem s w some (omega arith)) (says-problem s w some (omega arith))
+    go (no some) (no h) = rw (by_problem s w some (omega arith)) (says-problem s w some (omega arith) (problem_at w 0) refl)
 
 says_of : (s : Totals) (w : List ℕ) (o : Outcome Totals) → outcome s w ≡ o → Says s w o
 says_of s w o e = rw (sym e) (says s w)

@@ -1,4 +1,5 @@
 -- Lines in the memory for a line, as the writer leaves them.
+use Rattle.std.specs.Prelude.{Result, Ok}
 use mathlib.Core.Path.{◌≡◌, sym, ap, ◌∙◌}
 use mathlib.Core.List.{List}
 use Prim.Native.Nat.{ℕ, ◌≤◌}
@@ -7,11 +8,9 @@ use borrow.Author.Tests.{le-ltb}
 use lib.ListN.{length, length-append, take, drop}
 use lib.Seq.{take_at, take_all, length-take-le}
 use Rattle.refusal.specs.declared.Refusal.{Refusal}
-use Rattle.refusal.specs.Rules.{Verdict, passes, filled}
-use Rattle.writer.specs.declared.Written.{Written}
-use Rattle.writer.specs.declared.Written.TheVariants as written
+use Rattle.refusal.specs.Rules.{Verdict, passes, filled, value_or}
 use Rattle.writer.specs.Output.{refusal_line, row_line}
-use Rattle.writer.specs.Written.{bytes_or, refusal_verdict, refusal_written_of}
+use Rattle.writer.specs.Written.{refusal_verdict, refusal_written_of}
 use Rattle.writer.proofs.Line.{refusal_length}
 use Rattle.report.specs.inner.Outcomes.{with_line, Counted}
 
@@ -29,27 +28,21 @@ pub row_whole : (row : List ℕ) → length row ≤ 32 → row_line (take 32 row
 row_whole row h = ap row_line (take_all 32 row h)
 
 -- the writer's answer on a refusal, and what it leaves, in memory for 23 bytes
-module _ (r : Refusal) (old now : List ℕ) (long : 23 ≤ length old) (a : Written) (answer-is : a ≡ refusal_written_of (length old))
+module _ (r : Refusal) (old now : List ℕ) (long : 23 ≤ length old) (a : Result ℕ Refusal) (answer-is : a ≡ refusal_written_of (length old))
     (now-is : now ≡ filled (refusal_verdict (length old)) (refusal_line r) old) where
   fits : refusal_verdict (length old) ≡ passes
   unfolding refusal_verdict
   fits = rw (le-ltb (length old) 23 long)
 
-  counted : a ≡ written.Bytes 23
+  pub refusal-counted : a ≡ Ok 23
   unfolding refusal_written_of
-  counted = answer-is ∙ ap (λ (v : Verdict). bytes_or v 23) fits
+  refusal-counted = answer-is ∙ ap (λ (v : Verdict). value_or v 23) fits
 
   pub refusal-line : now ≡ with_line (refusal_line r) old
   refusal-line = now-is ∙ ap (λ (v : Verdict). filled v (refusal_line r) old) fits
 
-  pub refusal-bytes : (bytes : ℕ) → a ≡ written.Bytes bytes → bytes ≡ length (refusal_line r)
+  pub refusal-bytes : (bytes : ℕ) → a ≡ Ok bytes → bytes ≡ length (refusal_line r)
   refusal-bytes bytes e =
-      let f : written.Bytes bytes ≡ written.Bytes 23 = sym e ∙ counted in
+      let f : Ok bytes ≡ Ok 23 = sym e ∙ refusal-counted in
       let same : bytes ≡ 23 = cc f in
       same ∙ sym (refusal_length r)
-
-  pub never-refused : (x : Refusal) → a ≡ written.Refused x → ⊥
-  never-refused x e =
-      let f : written.Refused x ≡ written.Bytes 23 = sym e ∙ counted in
-      let z : ◌≡◌ {A = ℕ} 0 1 = cc f in
-      omega arith

@@ -1,13 +1,12 @@
 -- The report on a text of problems (02, 2.1: "A second program, the report, reads a text of 01's problems one after another").
-use Rattle.std.specs.Prelude.{cond, List, [], ◌∷◌, ◌++◌, ℕ, zero, suc, ◌+◌, eqb, ℤ, take, drop}
+use Rattle.std.specs.Prelude.{cond, List, [], ◌∷◌, ◌++◌, ℕ, zero, suc, ◌+◌, eqb, take, drop, Result, Ok, Err}
 use Rattle.theory.specs.Counts.{solutions, counts_below, count_row}
 use Rattle.refusal.specs.declared.Refusal.{Refusal}
 use Rattle.refusal.specs.declared.Refusal.TheVariants.{Form, TooManyProblems}
 use Rattle.refusal.specs.Number.{number_of, place_of}
 use Rattle.refusal.specs.Rules.{tried}
 use Rattle.numbers.specs.Modulus.{modulus_rules}
-use Rattle.text.specs.declared.Read.{Read}
-use Rattle.text.specs.declared.Read.TheVariants.{Given, Refused}
+use Rattle.text.specs.declared.Problem.{Problem}
 use Rattle.text.specs.Form.{problem_at}
 use Rattle.writer.specs.Output.{refusal_line, text_or, row_line}
 use Rattle.report.specs.declared.step.Totals.{Totals}
@@ -36,11 +35,13 @@ from_start at r = cond (eqb (number_of r) 1) (Form (at + place_of r)) r
 
 -- "Each problem gives a line of its n + 1 counts", and "Bytes after a problem begin the next one"; "The first refused problem ends the
 -- report with its refusal line": by what the reader gives of the problem at the front of the text that is left
-abbrev pub report_by : (Totals → List ℕ → List ℕ) → Totals → List ℕ → Read → List ℤ → List ℕ
-report_by rest s left (Given p n c end) row =
-    text_or (tried (modulus_rules p n))
-    (row_line (count_row (take c row) p n) ++ rest (after s end (solutions (take c row) p n)) (drop end left))
-report_by rest s left (Refused r) row = refusal_line (from_start s.at r)
+abbrev pub report_by : (Totals → List ℕ → List ℕ) → Totals → List ℕ → Result Problem Refusal → List ℕ
+report_by rest s left (Ok problem) =
+    let f = take problem.count problem.coefficients in
+    text_or (tried (modulus_rules problem.p problem.n))
+    (row_line (count_row f problem.p problem.n)
+    ++ rest (after s problem.end (solutions f problem.p problem.n)) (drop problem.end left))
+report_by rest s left (Err r) = refusal_line (from_start s.at r)
 
 -- "a last line gives the number of problems, of those with N_n = 0, and the sum of all N_n": at the end of the text; or lines before it
 abbrev pub lines_or_last : Totals → (left lines : List ℕ) → List ℕ
@@ -54,7 +55,7 @@ unfolding refusal_line row_line solutions counts_below modulus_rules problem_at
 report_from zero s left = lines_or_last s left (refusal_line (TooManyProblems s.at))
 report_from (suc more) s left =
     lines_or_last s left
-    (report_by (λ s' left'. report_from more s' left') s left (problem_at left 0).read (problem_at left 0).coefficients)
+    (report_by (λ s' left'. report_from more s' left') s left (problem_at left 0))
 
 -- the report on a whole text
 unfoldable pub report_text : List ℕ → List ℕ

@@ -3,7 +3,7 @@
 // where it waits, one read adds what there is, and a read of nothing is the end of the text.
 #![tactic(auto)]
 
-ghost use Rattle.std.specs.Prelude.{◌≡◌, ◌+◌, ◌-◌, ◌≤◌, ◌<◌, length, take, drop};
+ghost use Rattle.std.specs.Prelude.{◌≡◌, ◌+◌, ◌≤◌, ◌<◌, length};
 ghost use Rattle.report.specs.Run.{wait};
 ghost use Rattle.report.specs.inner.Outcomes.{outcome};
 ghost use Rattle.report.specs.inner.Places.{Placed, unused, Going, Turned};
@@ -13,7 +13,6 @@ use std::io::Read;
 use step::{Stepped, Totals};
 
 mod step;
-mod window;
 
 // The totals, and the part of the buffer that holds the bytes that are read and not yet used.
 #[derive(Clone, Copy)]
@@ -21,12 +20,6 @@ struct Place {
     totals: Totals,
     from: usize,
     to: usize,
-}
-
-#[derive(Clone, Copy)]
-enum Next {
-    Go(Place),
-    Done,
 }
 
 // Writes a line, unless a write or a read has failed before. `done` keeps the first error, which `main` returns.
@@ -58,34 +51,27 @@ fn turn(
     done: &mut io::Result<()>,
     at: Place,
     buffer: &mut [u8],
-) -> Next
+) -> Option<Place>
     requires value { 65536 ≡ length buffer.old }
     requires placed { Placed at }
     ensures going { Going at result }
     ensures turned { Turned at.totals (unused at buffer.old) result buffer.new }
 {
-    let totals = at.totals;
-    let from = at.from;
-    let to = at.to;
     let mut line = [0u8; 641];
-    match step::step(totals, &buffer[from..to], &mut line) {
-        Stepped::Line {
-            totals: next,
-            end,
-            bytes,
-        } => {
+    match step::step(at.totals, &buffer[at.from..at.to], &mut line) {
+        Stepped::Line { totals, end, bytes } => {
             write(rt, &line[..bytes], done);
-            Next::Go(Place {
-                totals: next,
-                from: from + end,
-                to,
+            Some(Place {
+                totals,
+                from: at.from + end,
+                to: at.to,
             })
         }
         Stepped::Stop(bytes) => {
             write(rt, &line[..bytes], done);
-            Next::Done
+            None
         }
-        Stepped::Wait => more(rt, input, done, totals, buffer, from, to),
+        Stepped::Wait => more(rt, input, done, at, buffer),
     }
 }
 
@@ -94,29 +80,27 @@ fn more(
     rt: &impl Print,
     input: &mut impl Read,
     done: &mut io::Result<()>,
-    totals: Totals,
+    at: Place,
     buffer: &mut [u8],
-    from: usize,
-    to: usize,
-) -> Next
+) -> Option<Place>
     requires value { 65536 ≡ length buffer.old }
-    requires placed { Placed (record { totals = totals; from = from; to = to }) }
-    requires to_bound { to < from + 1399 }
-    requires buffer_value { outcome totals (take (to - from) (drop from buffer.old)) ≡ wait }
-    ensures going { Going (record { totals = totals; from = from; to = to }) result }
-    ensures turned { Turned totals (take (to - from) (drop from buffer.old)) result buffer.new }
+    requires placed { Placed at }
+    requires to_bound { at.to < at.from + 1399 }
+    requires buffer_value { outcome at.totals (unused at buffer.old) ≡ wait }
+    ensures going { Going at result }
+    ensures turned { Turned at.totals (unused at buffer.old) result buffer.new }
 {
-    window::shift(buffer, from, to);
-    let held = to - from;
+    buffer.copy_within(at.from..at.to, 0);
+    let held = at.to - at.from;
     let n = read(input, &mut buffer[held..], done);
     if n == 0 {
         let mut line = [0u8; 641];
-        let bytes = step::finish(totals, &buffer[..held], &mut line);
+        let bytes = step::finish(at.totals, &buffer[..held], &mut line);
         write(rt, &line[..bytes], done);
-        return Next::Done;
+        return None;
     }
-    Next::Go(Place {
-        totals,
+    Some(Place {
+        totals: at.totals,
         from: 0,
         to: held + n,
     })
@@ -138,14 +122,8 @@ fn main(rt: HostRuntime) -> io::Result<()> {
         from: 0,
         to: 0,
     };
-    loop {
-        match turn(&rt, &mut input, &mut done, at, buffer) {
-            Next::Go(next) => {
-                at = next;
-            }
-            Next::Done => {
-                return done;
-            }
-        }
+    while let Some(next) = turn(&rt, &mut input, &mut done, at, buffer) {
+        at = next;
     }
+    done
 }

@@ -2,13 +2,10 @@
 ghost use Rattle.std.specs.Prelude.{◌≡◌, ◌+◌, ◌≤◌, ◌<◌, length, take};
 ghost use Rattle.refusal.specs.Number.{place_of};
 ghost use Rattle.writer.specs.Output.{refusal_line};
-ghost use Rattle.report.specs.Report.{rootless_by, after as after_of, from_start};
+ghost use Rattle.report.specs.Report.{after as after_of, from_start};
 ghost use Rattle.report.specs.inner.Outcomes.{outcome_of, outcome, ending, step_of, line_of, with_line, Small, Counted, After};
 
 use refusal::Refusal;
-use solver::Tabulated;
-use text::Read;
-use writer::Written;
 
 // The offset from the start of the text, and what the last line says: the number of problems so far, of those without a root, and of all
 // their roots.
@@ -35,31 +32,17 @@ pub(crate) enum Stepped {
     Wait,
 }
 
-// 1 where a problem has no root.
-fn rootless_by(roots: u64) -> u64
-    ensures { result ≡ rootless_by roots }
-{
-    if roots == 0 {
-        return 1;
-    }
-    0
-}
-
 // The totals after a problem more.
 fn after(totals: Totals, bytes: usize, roots: u64) -> Totals
     requires small { Small totals }
     requires problems_bound { (totals.problems < 1000) × ((bytes ≤ 1399) × (roots ≤ 4294967295)) }
     ensures { result ≡ after_of totals bytes roots }
 {
-    let at = totals.at;
-    let problems = totals.problems;
-    let rootless = totals.rootless;
-    let before = totals.roots;
     Totals {
-        at: at + bytes,
-        problems: problems + 1,
-        rootless: rootless + rootless_by(roots),
-        roots: before + roots,
+        at: totals.at + bytes,
+        problems: totals.problems + 1,
+        rootless: totals.rootless + u64::from(roots == 0),
+        roots: totals.roots + roots,
     }
 }
 
@@ -80,10 +63,7 @@ fn put_refusal(refusal: Refusal, line: &mut [u8; 641]) -> usize
     ensures line { line.new ≡ with_line (refusal_line refusal) line.old }
     ensures counts { Counted result line.new }
 {
-    match writer::write_refusal(refusal, line) {
-        Written::Bytes(bytes) => bytes,
-        Written::Refused(_) => 0,
-    }
+    writer::write_refusal(refusal, line).unwrap()
 }
 
 // The line of a problem with these coefficients, p and n, whose text ends there: its counts, or the refusal of p and n.
@@ -104,17 +84,16 @@ fn solve(
 {
     let mut row = [0u64; 32];
     match solver::counts(coefficients, p, n, &mut row) {
-        Tabulated::Filled => {
+        Ok(()) => {
             let last = n as usize;
-            let roots = row[last];
             let bytes = writer::write_row(&row[..last + 1], line);
             Stepped::Line {
-                totals: after(totals, end, roots),
+                totals: after(totals, end, row[last]),
                 end,
                 bytes,
             }
         }
-        Tabulated::Refused(r) => Stepped::Stop(put_refusal(r, line)),
+        Err(r) => Stepped::Stop(put_refusal(r, line)),
     }
 }
 
@@ -126,24 +105,19 @@ pub(crate) fn step(totals: Totals, bytes: &[u8], line: &mut [u8; 641]) -> Steppe
     ensures line { line.new ≡ line_of (outcome totals bytes.now) line.old }
     ensures after { After totals result (length bytes.now) line.new }
 {
-    if bytes.len() == 0 {
+    if bytes.is_empty() {
         return Stepped::Wait;
     }
-    let at = totals.at;
     if 1000 <= totals.problems {
-        return Stepped::Stop(put_refusal(Refusal::TooManyProblems(at), line));
+        return Stepped::Stop(put_refusal(Refusal::TooManyProblems(totals.at), line));
     }
-    let problem = text::read_problem_at(bytes, 0);
-    let read = problem.read;
-    let row = problem.coefficients;
-    match read {
-        Read::Given { p, n, count, end } => solve(totals, &row[..count], p, n, end, line),
-        Read::Refused(r) => {
-            if bytes.len() < 1399 {
-                return Stepped::Wait;
-            }
-            Stepped::Stop(put_refusal(from_start(at, r), line))
+    match text::read_problem_at(bytes, 0) {
+        Ok(problem) => {
+            let f = &problem.coefficients[..problem.count];
+            solve(totals, f, problem.p, problem.n, problem.end, line)
         }
+        Err(_) if bytes.len() < 1399 => Stepped::Wait,
+        Err(r) => Stepped::Stop(put_refusal(from_start(totals.at, r), line)),
     }
 }
 
@@ -154,23 +128,12 @@ pub(crate) fn finish(totals: Totals, bytes: &[u8], line: &mut [u8; 641]) -> usiz
     ensures answer { take result line.new ≡ ending totals bytes.now }
     ensures counts { Counted result line.new }
 {
-    if bytes.len() == 0 {
-        let problems = totals.problems;
-        let rootless = totals.rootless;
-        let roots = totals.roots;
-        let row = [problems, rootless, roots];
+    if bytes.is_empty() {
+        let row = [totals.problems, totals.rootless, totals.roots];
         return writer::write_row(&row, line);
     }
-    let at = totals.at;
-    let problem = text::read_problem_at(bytes, 0);
-    let read = problem.read;
-    match read {
-        Read::Given {
-            p: _,
-            n: _,
-            count: _,
-            end: _,
-        } => 0,
-        Read::Refused(r) => put_refusal(from_start(at, r), line),
+    match text::read_problem_at(bytes, 0) {
+        Ok(_) => 0,
+        Err(r) => put_refusal(from_start(totals.at, r), line),
     }
 }

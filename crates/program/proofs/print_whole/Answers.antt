@@ -1,32 +1,34 @@
 -- `program::print_whole` meets its contract.
+use mathlib.Core.Path.{◌≡◌, sym, ap, ◌∙◌}
+use Prim.Native.Nat.{ℕ, ◌≤◌}
 use borrow.Author.Rules.{rules}
-use Prim.Native.Nat.{◌≤◌}
 use lib.ListN.{length}
-use Rattle.program.proofs.Fits.{never-refused, laid, printed-number, printed-within, printed-counted}
+use Rattle.std.specs.Prelude.{Result, Ok, is_ok}
+use Rattle.refusal.specs.declared.Refusal.{Refusal}
+use Rattle.program.specs.Printed.{printed_text}
+use Rattle.program.proofs.Fits.{counted, laid, printed-within, printed-counted}
 use Rattle.program.proofs.print_whole.Goals as goal
 
-pub returns-in-Bytes : goal.returns-in-Bytes
-returns-in-Bytes c =
+pub unwrap-requires : goal.unwrap-requires
+unwrap-requires c =
     let a = c.args in
-    let text = a.text.now in
-    let old = a.out.now in
+    let long : 2925 ≤ length a.out.now = search rules in
+    let s = c.print.ensures in
+    ap (λ (r : Result ℕ Refusal). is_ok r) (counted a.text.now a.out.now c.print.new.out long _ s.answer s.out)
+
+pub returns : goal.returns
+returns c =
+    let text = c.args.text.now in
+    let old = c.args.out.now in
     let now = c.print.new.out in
     let long : 2925 ≤ length old = search rules in
     let s = c.print.ensures in
-    let g = c.in-Bytes in record {
-      answer = printed-number text old now long _ s.answer s.out g.bytes g.is;
+    let is : Ok c.unwrap.result ≡ Ok (length (printed_text text)) = sym c.unwrap.ensures ∙ counted text old now long _ s.answer s.out in
+    let printed : c.unwrap.result ≡ length (printed_text text) = cc is in record {
+      answer = printed;
       out = laid text old now long _ s.answer s.out;
       counts = (
-        printed-within text old now long _ s.answer s.out g.bytes g.is,
-        printed-counted text old now long _ s.answer s.out g.bytes g.is,
+        printed-within text old now long _ s.answer s.out _ printed,
+        printed-counted text old now long _ s.answer s.out _ printed,
       );
     }
-
-pub returns-in-Refused : goal.returns-in-Refused
-returns-in-Refused c =
-    let a = c.args in
-    let old = a.out.now in
-    let long : 2925 ≤ length old = search rules in
-    let s = c.print.ensures in
-    let g = c.in-Refused in
-    absurd (never-refused a.text.now old c.print.new.out long _ s.answer s.out g.field-0 g.is)

@@ -1,11 +1,11 @@
 -- What stands at the front of the bytes that are read: the outcome of a step, its line, and what it leaves.
-use Rattle.std.specs.Prelude.{◌≡◌, cond, List, [], ◌∷◌, ◌++◌, ℕ, ◌+◌, ◌*◌, ◌≤◌, ◌<◌, ltb, leb, ℤ, length, take, drop}
+use Rattle.std.specs.Prelude.{◌≡◌, cond, List, [], ◌∷◌, ◌++◌, ℕ, ◌+◌, ◌*◌, ◌≤◌, ◌<◌, ltb, leb, ℤ, length, take, drop, Result, Ok, Err}
+use Rattle.refusal.specs.declared.Refusal.{Refusal}
 use Rattle.theory.specs.Counts.{solutions, count_row}
 use Rattle.refusal.specs.declared.Refusal.TheVariants.{TooManyProblems}
 use Rattle.refusal.specs.Rules.{Verdict, passes, refuses, tried}
 use Rattle.numbers.specs.Modulus.{modulus_rules}
-use Rattle.text.specs.declared.Read.{Read}
-use Rattle.text.specs.declared.Read.TheVariants.{Given, Refused}
+use Rattle.text.specs.declared.Problem.{Problem}
 use Rattle.text.specs.Form.{problem_at}
 use Rattle.writer.specs.Output.{refusal_line, row_line}
 use Rattle.report.specs.declared.step.Totals.{Totals}
@@ -24,24 +24,24 @@ unfoldable pub outcome_of : Totals → (f : List ℤ) → (p n end : ℕ) → Ou
 outcome_of s f p n end = next_or (tried (modulus_rules p n)) (after s end (solutions f p n)) (row_line (count_row f p n)) end
 
 -- by what the reader gives; "The longest has 1,399 bytes", so a refusal of fewer bytes may be for want of more
-abbrev pub outcome_by : Totals → List ℕ → Read → List ℤ → Outcome Totals
-outcome_by s w (Given p n c end) row = outcome_of s (take c row) p n end
-outcome_by s w (Refused r) row = cond (ltb (length w) 1399) wait (stop (refusal_line (from_start s.at r)))
+abbrev pub outcome_by : Totals → List ℕ → Result Problem Refusal → Outcome Totals
+outcome_by s w (Ok problem) = outcome_of s (take problem.count problem.coefficients) problem.p problem.n problem.end
+outcome_by s w (Err r) = cond (ltb (length w) 1399) wait (stop (refusal_line (from_start s.at r)))
 
 unfoldable pub outcome : Totals → List ℕ → Outcome Totals
 outcome s [] = wait
 outcome s (byte ∷ w) =
     cond (leb 1000 s.problems) (stop (refusal_line (TooManyProblems s.at)))
-    (outcome_by s (byte ∷ w) (problem_at (byte ∷ w) 0).read (problem_at (byte ∷ w) 0).coefficients)
+    (outcome_by s (byte ∷ w) (problem_at (byte ∷ w) 0))
 
 -- by what the reader gives of the bytes that are left at the end of the text; a problem that is read is never left
-abbrev pub ending_by : Totals → Read → List ℕ
-ending_by s (Given p n c end) = []
-ending_by s (Refused r) = refusal_line (from_start s.at r)
+abbrev pub ending_by : Totals → Result Problem Refusal → List ℕ
+ending_by s (Ok problem) = []
+ending_by s (Err r) = refusal_line (from_start s.at r)
 
 unfoldable pub ending : Totals → List ℕ → List ℕ
 ending s [] = row_line (s.problems ∷ s.rootless ∷ s.roots ∷ [])
-ending s (byte ∷ w) = ending_by s (problem_at (byte ∷ w) 0).read
+ending s (byte ∷ w) = ending_by s (problem_at (byte ∷ w) 0)
 
 -- what a step answers
 abbrev pub step_of : Outcome Totals → Stepped
