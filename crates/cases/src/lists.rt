@@ -1,30 +1,45 @@
-// Lists of classes made of the numbers of a row.
+// Lists of classes that are lent to a call.
+use crate::list::first;
 use crate::rows::Row;
 
-#[derive(Clone, Copy)]
+#[derive(Drop)]
 pub(crate) struct Lists {
-    pub(crate) residues: [i32; 66],
-    pub(crate) levels: [u8; 66],
-    pub(crate) marks: [u8; 66],
+    residues: [i32; 66],
+    levels: [u8; 66],
+    marks: [u8; 66],
 }
 
-// The numbers in groups of so many: the first of a group as a residue, the second as a level, the last as a mark.
-pub(crate) fn grouped(row: Row, each: usize) -> Lists {
-    let mut residues = [0i32; 66];
-    let mut levels = [0u8; 66];
-    let mut marks = [0u8; 66];
-    let mut at: usize = 0;
-    let mut i: usize = 0;
-    while i < 66 {
-        residues[i] = row.residue(at);
-        levels[i] = (row.item(at % 256 + 1) % 256) as u8;
-        at = at % 256 + each % 4;
-        marks[i] = (row.item(at % 256 + 255) % 256) as u8;
-        i += 1;
+impl Lists {
+    // The numbers in groups of so many: the first of a group as a residue, the second as a level, the last as a mark.
+    pub(crate) fn read(row: &Row, each: usize) -> Lists {
+        let mut lists = Lists {
+            residues: [0; 66],
+            levels: [0; 66],
+            marks: [0; 66],
+        };
+        let groups = lists
+            .residues
+            .iter_mut()
+            .zip(&mut lists.levels)
+            .zip(&mut lists.marks);
+        for (i, ((residue, level), mark)) in groups.enumerate() {
+            let at = each.wrapping_mul(i);
+            *residue = row.residue(at);
+            *level = row.byte(at.wrapping_add(1));
+            *mark = row.byte(at.wrapping_add(each).wrapping_sub(1));
+        }
+        lists
     }
-    Lists {
-        residues,
-        levels,
-        marks,
+
+    pub(crate) fn residues(&self, count: usize) -> &[i32] {
+        first(&self.residues, count)
+    }
+
+    pub(crate) fn levels(&self, count: usize) -> &[u8] {
+        first(&self.levels, count)
+    }
+
+    pub(crate) fn marks(&self, count: usize) -> &[u8] {
+        first(&self.marks, count)
     }
 }

@@ -1,30 +1,17 @@
 // Cases of the next root.
-use crate::answer;
-use crate::answer::Answer;
-use crate::call::Call;
-use crate::prefix::{bytes, words};
-use classes::Next;
+use crate::answer::{Answer, Said};
+use crate::case::Case;
 
-pub(crate) fn next(residues: [i32; 66], levels: [u8; 66], call: Call) -> Answer {
-    match classes::next_root(
-        call.p,
-        call.n,
-        words(&residues, (call.before % 256 + 1) / 2),
-        bytes(&levels, call.before / 2),
-        call.point,
-    ) {
-        Next::Root(r) => Answer {
-            letter: b'#',
-            first: r as u64,
-            second: 0,
-            same: true,
-        },
-        Next::None => Answer {
-            letter: b'n',
-            first: 0,
-            second: 0,
-            same: true,
-        },
-        Next::Refused(r) => answer::refused(r, true),
-    }
+pub(crate) fn next(case: &Case) -> Answer {
+    let next = classes::next_root(
+        case.p(),
+        case.n(),
+        case.lists.residues((case.before() + 1) / 2),
+        case.lists.levels(case.before() / 2),
+        case.point(),
+    );
+    Answer::alone(next.map(|root| match root {
+        Some(r) => Said::Number(u64::from(r)),
+        None => Said::No,
+    }))
 }

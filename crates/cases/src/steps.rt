@@ -1,53 +1,28 @@
 // Cases of stepping.
-use crate::answer::Answer;
-use crate::call::Call;
-use crate::rows::Row;
-use crate::{answer, prefix};
-use solver::Solved;
+use crate::answer::{Answer, Said};
+use crate::case::Case;
+use crate::memory::same_numbers;
 
-// Whether the first k numbers are the expected ones, and the later ones 77.
-pub(crate) fn same(numbers: [u64; 34], k: usize, expected: Row) -> bool {
-    let mut i: usize = 0;
-    while i < 34 {
-        let mut x: u64 = 77;
-        if i < k {
-            x = expected.item(i);
-        }
-        if numbers[i] != x {
-            return false;
-        }
-        i += 1;
-    }
-    true
-}
-
-// The answers of so many calls, from a point. Every slot holds 77 before the call.
-pub(crate) fn steps(f: [i64; 256], c: usize, call: Call, expected: Row) -> Answer {
-    let k = call.calls as usize % 17;
-    let mut residues = [77i32; 65];
-    let mut levels = [77u8; 65];
-    let mut marks = [77u8; 65];
-    let mut answers = [77u64; 34];
-    match stepping::step_through(
-        prefix::coefficients(&f, c),
-        call.p,
-        call.n,
+// The answers of so many calls, from a point.
+pub(crate) fn steps(case: &Case) -> Answer {
+    let k = case.call(3) as usize % 17;
+    let mut residues = [77; 65];
+    let mut levels = [77; 65];
+    let mut marks = [77; 65];
+    let mut answers = [77; 34];
+    let stepped = stepping::step_through(
+        case.f.all(),
+        case.p(),
+        case.n(),
         &mut residues,
         &mut levels,
         &mut marks,
-        call.point,
-        &mut answers[0..k],
-    ) {
-        Solved::Found {
-            classes: _,
-            roots: _,
-            live: _,
-        } => Answer {
-            letter: b'#',
-            first: expected.item(0),
-            second: expected.item(1),
-            same: same(answers, k, expected),
-        },
-        Solved::Refused(r) => answer::refused(r, same(answers, 0, expected)),
+        case.point(),
+        &mut answers[..k],
+    );
+    let filled = if stepped.is_ok() { k } else { 0 };
+    Answer {
+        said: stepped.map(|_| Said::Numbers),
+        same: same_numbers(&answers, filled, &case.expected),
     }
 }

@@ -1,6 +1,0 @@
--- `cases::lists::grouped` is safe and ends: the slots left fall.
-use Rattle.std.proofs.Common.{◌-◌}
-use Rattle.cases.proofs.lists.grouped.Given as goal
-
-abbrev pub decreases-loop-i : goal.decreases-loop-i
-decreases-loop-i l = 66 - l.i
