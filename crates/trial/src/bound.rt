@@ -1,17 +1,15 @@
 // D by trial of the coefficients.
-use crate::modular::{Modulus, multiply_add};
-use crate::table::entry;
+use crate::library::Solved;
+use crate::modular::modulo;
+use crate::problem::Problem;
 
-// Whether k is at most D and `live` at most 1 + n·D, or both are 1 where all coefficients are zero. h has the coefficients divided by p^s,
-// and D is the highest index at which p does not divide it.
-pub(crate) fn holds(h: [u32; 65], x: Modulus, k: usize, live: u64) -> bool {
-    let mut i: usize = 65;
-    while 0 < i {
-        i -= 1;
-        if 0 < multiply_add(entry(h, i), 1, 0, x.p) {
-            let most = multiply_add(x.n, (i % 65) as u32, 1, 4294967295);
-            return (k <= i) & (live <= most as u64);
-        }
+// Whether the number of classes is at most D and that of live ones at most 1 + n·D, or both are 1 where all coefficients are zero. D is
+// the highest index of a coefficient that p does not divide after the division by p^s.
+pub(crate) fn holds(problem: &Problem, s: &Solved) -> bool {
+    let x = &problem.x;
+    let k = s.solution.list.k;
+    match problem.h().iter().rposition(|&a| modulo(a, x.p) != 0) {
+        Some(d) => k <= d && s.live <= (x.n as u64).saturating_mul(d as u64).saturating_add(1),
+        None => k == 1 && s.live == 1,
     }
-    (k == 1) & (live == 1)
 }

@@ -1,98 +1,66 @@
 // The entries of a list.
 use crate::library::Solution;
-use crate::modular::{Modulus, multiply_add, power};
+use crate::listed::List;
+use crate::marks;
+use crate::modular::{Class, Modulus, is_least, residue};
 use crate::plain::Roots;
-use crate::signed::{difference, is_least};
-use crate::table::{byte, entry, residue};
-use crate::tally::Tally;
-use crate::{listed, marks};
-use std::num::wrapping_add_usize;
+use crate::problem::Problem;
+use crate::tally::{Kind, ListKinds, Tally};
 
-// The classes of the roots as they are to be listed: their number, a for each residue a − m, and their levels.
-#[derive(Clone, Copy)]
-pub(crate) struct Entries {
-    k: usize,
-    numbers: [u32; 65],
-    levels: [u8; 65],
-}
-
-// The classes of the roots. A list rises by residue, so the numbers a − m that are of least size modulo m are tried in turn.
-pub(crate) fn find(x: Modulus, roots: Roots) -> Entries {
-    let mut numbers = [0u32; 65];
-    let mut levels = [0u8; 65];
-    let at = roots.at;
-    let mut k: usize = 0;
-    let mut a = x.m % 513 / 2;
-    let end = a + x.m % 513 + 1;
-    while a < end {
-        let t = listed::level(&at, x, a);
-        let is_entry = (t <= x.n) & is_least(a, x.m, power(x.p, t));
-        numbers[k % 65] = a;
-        levels[k % 65] = (t % 256) as u8;
-        k = wrapping_add_usize(k, is_entry as usize);
-        a += 1;
+// The largest class of z all of whose members are roots.
+fn largest(x: &Modulus, roots: &Roots, z: i32) -> Option<Class> {
+    if !roots.contains(residue(z as i64, x.m)) {
+        return None;
     }
-    Entries { k, numbers, levels }
+    (0..=x.n)
+        .map(|t| x.class(z as i64, t))
+        .find(|class| class.members(x.m).all(|r| roots.contains(r)))
 }
 
-// The number of classes, and the residue and level of each; `kind` is that of the number.
+// The classes of the roots as they are to be listed. A list rises by residue, so the numbers of least size modulo m are tried in turn.
+pub(crate) fn find(x: &Modulus, roots: &Roots) -> List {
+    let mut list = List::new();
+    let most = (x.m / 2) as i32;
+    let least = most - x.m as i32;
+    for z in least..=most {
+        if let Some(class) = largest(x, roots, z)
+            && is_least(z, class.q)
+        {
+            list.push(z, class.t);
+        }
+    }
+    list
+}
+
+// The number of classes, and the residue and level of each, by the kinds of both.
 pub(crate) fn compare_unmarked(
-    found: Entries,
-    m: u32,
-    s: Solution,
-    kind: usize,
-    mut tally: Tally,
-) -> Tally {
-    let numbers = found.numbers;
-    let found_levels = found.levels;
-    let residues = s.residues;
-    let levels = s.levels;
-    let k = found.k;
-    let mut i: usize = 0;
-    while i < k {
-        let same = (residue(residues, i) == difference(entry(numbers, i), m))
-            & (byte(levels, i) == byte(found_levels, i));
-        tally = tally.compare(kind % 64 + 2, same);
-        i += 1;
+    found: &List,
+    list: &List,
+    classes: Kind,
+    entry: Kind,
+    tally: &mut Tally,
+) {
+    tally.compare(classes, found.k == list.k);
+    for (i, (z, t)) in found.residues().iter().zip(found.levels()).enumerate() {
+        let same = list.residues.get(i) == Some(z) && list.levels.get(i) == Some(t);
+        tally.compare(entry, same);
     }
-    tally.compare(kind, k == s.k)
 }
 
-// The marks, where h has the c coefficients divided by p^s.
-fn compare_marks(
-    h: [u32; 65],
-    c: usize,
-    x: Modulus,
-    found: Entries,
-    s: Solution,
-    kind: usize,
-    mut tally: Tally,
-) -> Tally {
-    let numbers = found.numbers;
-    let levels = found.levels;
-    let marks = s.marks;
-    let k = found.k;
-    let mut i: usize = 0;
-    while i < k {
-        let q = power(x.p, byte(levels, i));
-        let mark = marks::mark(h, c, multiply_add(entry(numbers, i), 1, 0, q), q, x);
-        tally = tally.compare(kind % 64 + 4, byte(marks, i) == mark);
-        i += 1;
-    }
-    tally
-}
-
-// A list and its marks.
+// A list and its marks, where these are the roots of the problem that it is to have.
 pub(crate) fn compare(
-    h: [u32; 65],
-    c: usize,
-    x: Modulus,
-    roots: Roots,
-    s: Solution,
-    kind: usize,
-    tally: Tally,
-) -> Tally {
+    problem: &Problem,
+    roots: &Roots,
+    s: &Solution,
+    kinds: ListKinds,
+    tally: &mut Tally,
+) {
+    let x = &problem.x;
     let found = find(x, roots);
-    let compared = compare_unmarked(found, x.m, s, kind, tally);
-    compare_marks(h, c, x, found, s, kind, compared)
+    compare_unmarked(&found, &s.list, kinds.classes, kinds.entry, tally);
+    let classes = found.residues().iter().zip(found.levels());
+    for ((&z, &t), &mark) in classes.zip(&s.marks) {
+        let wanted = marks::mark(problem, &x.class(z as i64, t as u32));
+        tally.compare(kinds.mark, mark == wanted);
+    }
 }

@@ -1,223 +1,124 @@
-// Calls of the library on whole tables, with their answers as numbers.
+// Calls of the library. Where a call fills lists, every slot holds 77 before it.
+use crate::listed::List;
 use crate::modular::Modulus;
-use crate::prefix;
-use classes::Next;
-use rootmap::{Counted, Mapped};
-use solver::{Query, Raised, Solved, Tested};
-use systems::{Changed, Fetched, Outcome, System};
+use refusal::Refusal;
+use solver::Query;
+use systems::System;
 
-// The answer of a call that fills lists, and the lists after it.
-#[derive(Clone, Copy)]
+// Lists after a call that fills them, and the number of roots.
+#[derive(Clone, Copy, PartialEq, Eq)]
 pub(crate) struct Solution {
-    // the number of classes, and 65 for a refusal
-    pub(crate) k: usize,
-    pub(crate) roots: u64,
-    pub(crate) live: u64,
-    pub(crate) residues: [i32; 65],
-    pub(crate) levels: [u8; 65],
+    pub(crate) list: List,
     pub(crate) marks: [u8; 65],
+    pub(crate) roots: u64,
 }
 
-// The solver's answer for the first c coefficients; every slot holds 77 before the call.
-pub(crate) fn solve(f: [i64; 65], c: usize, x: Modulus) -> Solution {
-    let mut residues = [77i32; 65];
-    let mut levels = [77u8; 65];
-    let mut marks = [77u8; 65];
-    match solver::solve(
-        prefix::coefficients(&f, c),
-        x.p,
-        x.n,
-        &mut residues,
-        &mut levels,
-        &mut marks,
-    ) {
-        Solved::Found {
-            classes,
-            roots,
-            live,
-        } => Solution {
-            k: classes,
-            roots,
-            live,
-            residues,
-            levels,
-            marks,
-        },
-        Solved::Refused(_) => Solution {
-            k: 65,
-            roots: 0,
-            live: 0,
-            residues,
-            levels,
-            marks,
-        },
+impl Solution {
+    pub(crate) fn marks(&self) -> &[u8] {
+        &self.marks[..self.list.k.min(65)]
+    }
+
+    // Whether the slots after the classes hold what they held before the call.
+    pub(crate) fn unused(&self) -> bool {
+        self.list.unused()
+            && self.marks[self.list.k.min(65)..]
+                .iter()
+                .all(|&mark| mark == 77)
     }
 }
 
-// The answer for the classes of a list at precision j, raised to n; every slot holds 77 before the call.
-pub(crate) fn raise(f: [i64; 65], c: usize, x: Modulus, j: u32, given: Solution) -> Solution {
-    let given_residues = given.residues;
-    let given_levels = given.levels;
-    let mut residues = [77i32; 65];
-    let mut levels = [77u8; 65];
-    let mut marks = [77u8; 65];
-    match solver::raise_precision(
-        prefix::coefficients(&f, c),
+// The solver's answer: with the number of live classes.
+#[derive(Clone, Copy)]
+pub(crate) struct Solved {
+    pub(crate) solution: Solution,
+    pub(crate) live: u64,
+}
+
+pub(crate) fn solve(f: &[i64], x: &Modulus) -> Result<Solved, Refusal> {
+    let mut list = List::new();
+    let mut marks = [77; 65];
+    let found = solver::solve(
+        f,
+        x.p,
+        x.n,
+        &mut list.residues,
+        &mut list.levels,
+        &mut marks,
+    )?;
+    list.k = found.classes;
+    Ok(Solved {
+        solution: Solution {
+            list,
+            marks,
+            roots: found.roots,
+        },
+        live: found.live,
+    })
+}
+
+// The answer for the classes of a list at precision j, raised to n.
+pub(crate) fn raise(f: &[i64], j: u32, x: &Modulus, given: &List) -> Result<Solution, Refusal> {
+    let mut list = List::new();
+    let mut marks = [77; 65];
+    let found = solver::raise_precision(
+        f,
         x.p,
         j,
         x.n,
-        prefix::words(&given_residues, given.k),
-        prefix::bytes(&given_levels, given.k),
-        &mut residues,
-        &mut levels,
+        given.residues(),
+        given.levels(),
+        &mut list.residues,
+        &mut list.levels,
         &mut marks,
-    ) {
-        Raised::Found { classes, roots } => Solution {
-            k: classes,
-            roots,
-            live: 0,
-            residues,
-            levels,
-            marks,
-        },
-        Raised::Refused(_) => Solution {
-            k: 65,
-            roots: 0,
-            live: 0,
-            residues,
-            levels,
-            marks,
-        },
-    }
+    )?;
+    list.k = found.classes;
+    Ok(Solution {
+        list,
+        marks,
+        roots: found.roots,
+    })
 }
 
-// The row of counts after a call; every slot holds 77 before it.
-pub(crate) fn counts(f: [i64; 65], c: usize, x: Modulus) -> [u64; 10] {
-    let mut row = [77u64; 10];
-    solver::counts(prefix::coefficients(&f, c), x.p, x.n, &mut row);
-    row
+// The row of counts after a call.
+pub(crate) fn counts(f: &[i64], x: &Modulus) -> Result<[u64; 10], Refusal> {
+    let mut row = [77; 10];
+    solver::counts(f, x.p, x.n, &mut row)?;
+    Ok(row)
 }
 
-// The test: 1 for yes, 0 for no, 2 for a refusal.
-pub(crate) fn test(f: [i64; 65], c: usize, x: Modulus, r: u32) -> u8 {
-    match solver::is_root(prefix::coefficients(&f, c), x.p, x.n, r) {
-        Tested::Yes => 1,
-        Tested::No => 0,
-        Tested::Refused(_) => 2,
-    }
+pub(crate) fn test(f: &[i64], x: &Modulus, r: u32) -> Result<bool, Refusal> {
+    solver::is_root(f, x.p, x.n, r)
 }
 
 // The records after a call for many points.
-pub(crate) fn test_eight(f: [i64; 65], c: usize, x: Modulus, given: [Query; 8]) -> [Query; 8] {
-    let answers = queries::test_eight(prefix::coefficients(&f, c), x.p, x.n, given);
-    answers.queries
+pub(crate) fn test_eight(f: &[i64], x: &Modulus, given: [Query; 8]) -> Result<[Query; 8], Refusal> {
+    let answers = queries::test_eight(f, x.p, x.n, given);
+    answers.tested?;
+    Ok(answers.queries)
 }
 
-// The next root from a point in the first k classes: m for none, 2^32 − 1 for a refusal.
-pub(crate) fn next(residues: [i32; 65], levels: [u8; 65], k: usize, x: Modulus, point: u32) -> u32 {
-    match classes::next_root(
-        x.p,
-        x.n,
-        prefix::words(&residues, k),
-        prefix::bytes(&levels, k),
-        point,
-    ) {
-        Next::Root(r) => r,
-        Next::None => x.m,
-        Next::Refused(_) => 4294967295,
-    }
+// The next root from a point in the classes.
+pub(crate) fn next(list: &List, x: &Modulus, point: u32) -> Result<Option<u32>, Refusal> {
+    classes::next_root(x.p, x.n, list.residues(), list.levels(), point)
 }
 
-// A map after a call, and whether it was filled.
-#[derive(Clone, Copy)]
-pub(crate) struct Map {
-    pub(crate) filled: bool,
-    pub(crate) bits: [u8; 64],
+pub(crate) fn fill(list: &List, x: &Modulus, map: &mut [u8]) -> Result<(), Refusal> {
+    rootmap::fill_map(x.p, x.n, list.residues(), list.levels(), map)
 }
 
-// The map of the first k classes, on bytes that are 255 before the call.
-pub(crate) fn fill(
-    residues: [i32; 65],
-    levels: [u8; 65],
-    k: usize,
-    x: Modulus,
-    bytes: usize,
-) -> Map {
-    let mut bits = [255u8; 64];
-    match rootmap::fill_map(
-        x.p,
-        x.n,
-        prefix::words(&residues, k),
-        prefix::bytes(&levels, k),
-        prefix::bytes_mut(&mut bits, bytes),
-    ) {
-        Mapped::Filled => Map { filled: true, bits },
-        Mapped::Refused(_) => Map {
-            filled: false,
-            bits,
-        },
-    }
+// The count of a map's ones.
+pub(crate) fn count(map: &[u8], x: &Modulus) -> Result<u64, Refusal> {
+    rootmap::count_map(x.p, x.n, map)
 }
 
-// The count of a map's ones: 2^32 for a refusal.
-pub(crate) fn count(bits: [u8; 64], bytes: usize, x: Modulus) -> u64 {
-    match rootmap::count_map(x.p, x.n, prefix::bytes(&bits, bytes)) {
-        Counted::Ones(ones) => ones,
-        Counted::Refused(_) => 4294967296,
-    }
-}
-
-// A system after a call, and the answer: 0 for done, otherwise the number of the refusal.
-#[derive(Clone, Copy)]
-pub(crate) struct Call {
-    pub(crate) system: System,
-    pub(crate) answer: u32,
-}
-
-fn answered(changed: Changed) -> Call {
-    let system = changed.system;
-    let outcome = changed.outcome;
-    match outcome {
-        Outcome::Done => Call { system, answer: 0 },
-        Outcome::Refused(refusal) => Call {
-            system,
-            answer: refusal.number(),
-        },
-    }
-}
-
-pub(crate) fn open(x: Modulus) -> Call {
-    answered(systems::open(x.p, x.n))
-}
-
-pub(crate) fn add(system: System, tag: u32, f: [i64; 65], c: usize) -> Call {
-    answered(systems::add(system, tag, prefix::coefficients(&f, c)))
-}
-
-pub(crate) fn withdraw(system: System, tag: u32) -> Call {
-    answered(systems::withdraw(system, tag))
-}
-
-// The common list; every slot holds 77 before the call, and those of marks after it.
-pub(crate) fn fetch(system: System) -> Solution {
-    let mut residues = [77i32; 65];
-    let mut levels = [77u8; 65];
-    match systems::fetch(system, &mut residues, &mut levels) {
-        Fetched::Found { classes, roots } => Solution {
-            k: classes,
-            roots,
-            live: 0,
-            residues,
-            levels,
-            marks: [77; 65],
-        },
-        Fetched::Refused(_) => Solution {
-            k: 65,
-            roots: 0,
-            live: 0,
-            residues,
-            levels,
-            marks: [77; 65],
-        },
-    }
+// The common list and the number of its roots.
+pub(crate) fn fetch(system: &System) -> Result<Solution, Refusal> {
+    let mut list = List::new();
+    let found = system.fetch(&mut list.residues, &mut list.levels)?;
+    list.k = found.classes;
+    Ok(Solution {
+        list,
+        marks: [77; 65],
+        roots: found.roots,
+    })
 }

@@ -1,112 +1,63 @@
 // Roots above simple digits, by trial of all residues. With q = p^s and h the coefficients divided by q, a digit d is simple if p divides
 // h(d) and not h'(d).
 use crate::library::Solution;
-use crate::modular::{Modulus, multiply_add, power, quotient};
-use crate::plain::Roots;
-use crate::signed::difference;
-use crate::table::{byte, residue};
-use crate::tally::Tally;
-use crate::{plain, tally};
-use std::num::wrapping_add_u32;
+use crate::modular::{power, residue};
+use crate::plain;
+use crate::problem::Problem;
+use crate::tally::{Kind, Tally};
 
-// How many of the residues below m that are d modulo p are roots.
-fn roots_above(roots: Roots, d: u32, x: Modulus) -> u32 {
-    let members = quotient(x.m, x.p);
-    let mut count: u32 = 0;
-    let mut r = d;
-    let mut i: u32 = 0;
-    while i < members {
-        count = wrapping_add_u32(count, roots.at(r) as u32);
-        r = r % 512 + x.p % 512;
-        i += 1;
-    }
-    count
+// How many of the residues that are d modulo p are roots.
+fn roots_above(problem: &Problem, d: u32) -> usize {
+    let members = problem.x.class(d as i64, 1).members(problem.x.m);
+    members.filter(|&r| problem.roots.contains(r)).count()
 }
 
-// Whether z is d modulo p: it is compared with the numbers from −m to m − 1 that are, each as a − m.
-fn is_above(z: i32, d: u32, x: Modulus) -> bool {
-    let numbers = quotient(x.m % 513 * 2, x.p);
-    let mut a = d;
-    let mut i: u32 = 0;
-    while i < numbers {
-        if z == difference(a, x.m) {
-            return true;
+// Whether just one of the classes has members that are d modulo p, its level t has p^t·q = m, and its mark is 1.
+fn has_one_lift(problem: &Problem, s: &Solution, d: u32) -> bool {
+    let x = &problem.x;
+    let classes = s.list.residues().iter().zip(s.list.levels());
+    let mut only = None;
+    for ((&z, &t), &mark) in classes.zip(s.marks()) {
+        if t == 0 || residue(z as i64, x.p) == d {
+            if only.is_some() {
+                return false;
+            }
+            let fits = power(x.p, t as u32).saturating_mul(problem.q) == x.m;
+            only = Some(fits && mark == 1);
         }
-        a = a % 1024 + x.p % 512;
-        i += 1;
     }
-    false
-}
-
-// Whether just one of the first k classes has members that are d modulo p, its level t has p^t·q = m, and its mark is 1.
-fn has_one_lift(s: Solution, d: u32, q: u32, x: Modulus) -> bool {
-    let residues = s.residues;
-    let levels = s.levels;
-    let marks = s.marks;
-    let k = s.k;
-    let mut above: u32 = 0;
-    let mut lifts: u32 = 0;
-    let mut i: usize = 0;
-    while i < k {
-        let t = byte(levels, i);
-        if (t == 0) | is_above(residue(residues, i), d, x) {
-            let fits = multiply_add(power(x.p, t), q, 0, 4294967295) == x.m;
-            let lift = fits & (byte(marks, i) == 1);
-            above = wrapping_add_u32(above, 1);
-            lifts = wrapping_add_u32(lifts, lift as u32);
-        }
-        i += 1;
-    }
-    (above == 1) & (lifts == 1)
+    only == Some(true)
 }
 
 // Whether 0/0 is the only class and its mark is 1 or 2.
-fn is_everything(s: Solution) -> bool {
-    let residues = s.residues;
-    let levels = s.levels;
-    let marks = s.marks;
-    let mark = byte(marks, 0);
-    let everything = (residue(residues, 0) == 0) & (byte(levels, 0) == 0);
-    (s.k == 1) & everything & ((mark == 1) | (mark == 2))
+fn is_everything(s: &Solution) -> bool {
+    matches!(s.list.residues(), [0])
+        && matches!(s.list.levels(), [0])
+        && matches!(s.marks(), [1 | 2])
 }
 
 // Whether p divides h at all digits.
-fn vanishes_everywhere(h: [u32; 65], c: usize, p: u32) -> bool {
-    let mut d: u32 = 0;
-    while d < p {
-        if 0 < plain::evaluate(h, c, d, p).value {
-            return false;
-        }
-        d += 1;
-    }
-    true
+fn vanishes_everywhere(problem: &Problem) -> bool {
+    let p = problem.x.p;
+    (0..p).all(|d| plain::evaluate(problem.h(), d, p).value == 0)
 }
 
-// The roots above each simple digit and their class, where h has the c coefficients divided by q. If p·q = m and p divides h at all
-// digits, every residue is a root and the list is 0/0 alone.
-pub(crate) fn compare(
-    h: [u32; 65],
-    c: usize,
-    q: u32,
-    x: Modulus,
-    roots: Roots,
-    s: Solution,
-    mut tally: Tally,
-) -> Tally {
-    let exceptional = (multiply_add(x.p, q, 0, 4294967295) == x.m) & vanishes_everywhere(h, c, x.p);
-    let mut d: u32 = 0;
-    while d < x.p {
-        let v = plain::evaluate(h, c, d, x.p);
-        if (v.value == 0) & (0 < v.derivative) {
+// The roots above each simple digit and their class. If p·q = m and p divides h at all digits, every residue is a root and the list is 0/0
+// alone.
+pub(crate) fn compare(problem: &Problem, s: &Solution, tally: &mut Tally) {
+    let x = &problem.x;
+    let q = problem.q;
+    let exceptional = x.p.saturating_mul(q) == x.m && vanishes_everywhere(problem);
+    for d in 0..x.p {
+        let v = plain::evaluate(problem.h(), d, x.p);
+        if v.value == 0 && v.derivative != 0 {
             let same = if exceptional {
                 is_everything(s)
             } else {
-                has_one_lift(s, d, q, x)
+                has_one_lift(problem, s, d)
             };
-            tally = tally.compare(tally::LIFTS, roots_above(roots, d, x) == q);
-            tally = tally.compare(tally::LIFTED, same);
+            tally.compare(Kind::Lifts, roots_above(problem, d) == q as usize);
+            tally.compare(Kind::Lifted, same);
         }
-        d += 1;
     }
-    tally
 }

@@ -1,82 +1,65 @@
-// Whole classes by trial of their members, and the solver's list.
-use crate::library::Solution;
-use crate::modular::{Modulus, multiply_add, power, quotient};
+// Lists of classes.
+use crate::modular::{Modulus, modulo, power};
 use crate::plain::Roots;
-use crate::signed::difference;
-use crate::table::{byte, residue};
-use std::num::wrapping_add_u32;
 
-// Whether all of so many members of the class of r modulo q are roots, where `at` is the table of roots.
-fn is_whole(at: &[u8; 520], r: u32, q: u32, members: u32) -> bool {
-    let mut a = multiply_add(r, 1, 0, q);
-    let mut i: u32 = 0;
-    while i < members {
-        if at[(a % 520) as usize] == 0 {
-            return false;
+// The first k slots have the residues and levels of the classes.
+#[derive(Clone, Copy, PartialEq, Eq)]
+pub(crate) struct List {
+    pub(crate) k: usize,
+    pub(crate) residues: [i32; 65],
+    pub(crate) levels: [u8; 65],
+}
+
+impl List {
+    // No class, and 77 in every slot.
+    pub(crate) fn new() -> List {
+        List {
+            k: 0,
+            residues: [77; 65],
+            levels: [77; 65],
         }
-        a = a % 512 + q % 512;
-        i += 1;
     }
-    true
-}
 
-// The level of the largest whole class of r, and n + 1 where r is no root.
-pub(crate) fn level(at: &[u8; 520], x: Modulus, r: u32) -> u32 {
-    let none = x.n % 64 + 1;
-    if at[(multiply_add(r, 1, 0, x.m) % 520) as usize] == 0 {
-        return none;
-    }
-    let mut t: u32 = 0;
-    while t < none {
-        let q = power(x.p, t);
-        if is_whole(at, r, q, quotient(x.m, q)) {
-            return t;
+    // Adds a class, if there is a slot for it.
+    pub(crate) fn push(&mut self, residue: i32, level: u32) {
+        let k = self.k;
+        if k < 65 {
+            self.residues[k] = residue;
+            self.levels[k] = level.min(255) as u8;
+            self.k = k + 1;
         }
-        t += 1;
     }
-    none
-}
 
-// How many of the first k classes have r as a member: a class of level t has it if its residue is r modulo p^t, or that less p^t.
-pub(crate) fn memberships(residues: [i32; 65], levels: [u8; 65], k: usize, p: u32, r: u32) -> u32 {
-    let mut count: u32 = 0;
-    let mut i: usize = 0;
-    while i < k {
-        let q = power(p, byte(levels, i));
-        let a = multiply_add(r, 1, 0, q);
-        let z = residue(residues, i);
-        let member = (z == difference(a, 0)) | (z == difference(a, q));
-        count = wrapping_add_u32(count, member as u32);
-        i += 1;
+    pub(crate) fn residues(&self) -> &[i32] {
+        &self.residues[..self.k.min(65)]
     }
-    count
-}
 
-// How many residues are not in one class of the list where they are wanted, or in any where they are not.
-pub(crate) fn misplaced(s: Solution, x: Modulus, wanted: Roots) -> u32 {
-    let residues = s.residues;
-    let levels = s.levels;
-    let mut differ: u32 = 0;
-    let mut r: u32 = 0;
-    while r < x.m {
-        let count = memberships(residues, levels, s.k, x.p, r);
-        differ = wrapping_add_u32(differ, (count != wanted.at(r) as u32) as u32);
-        r += 1;
+    pub(crate) fn levels(&self) -> &[u8] {
+        &self.levels[..self.k.min(65)]
     }
-    differ
-}
 
-// Whether the slots from k on hold what they held before the call.
-pub(crate) fn unused(s: Solution) -> bool {
-    let residues = s.residues;
-    let levels = s.levels;
-    let marks = s.marks;
-    let mut i = s.k;
-    while i < 65 {
-        if (residue(residues, i) != 77) | (byte(levels, i) != 77) | (byte(marks, i) != 77) {
-            return false;
-        }
-        i += 1;
+    // How many of the classes have r as a member: a class of level t has it if its residue is r modulo p^t, or that less p^t.
+    pub(crate) fn memberships(&self, p: u32, r: u32) -> usize {
+        let classes = self.residues().iter().zip(self.levels());
+        classes
+            .filter(|&(&z, &t)| {
+                let q = power(p, t as u32);
+                let a = modulo(r, q) as i64;
+                z as i64 == a || z as i64 == a - q as i64
+            })
+            .count()
     }
-    true
+
+    // How many residues are not in one class where they are wanted, or in any where they are not.
+    pub(crate) fn misplaced(&self, x: &Modulus, wanted: &Roots) -> usize {
+        (0..x.m)
+            .filter(|&r| self.memberships(x.p, r) != wanted.contains(r) as usize)
+            .count()
+    }
+
+    // Whether the slots after the classes hold 77 still.
+    pub(crate) fn unused(&self) -> bool {
+        let k = self.k.min(65);
+        self.residues[k..].iter().all(|&z| z == 77) && self.levels[k..].iter().all(|&t| t == 77)
+    }
 }

@@ -3,8 +3,6 @@
 // the number of live classes with a count by its definition. The roots above each simple digit are counted, and the class that holds them
 // is looked at. In rows of calls on a system each call and the common list after it are compared with a plain set of tags and the residues
 // that solve all. The last line says how many answers differ.
-//
-// A number modulo a bound above its range, as in `c % 66`, is the number: the checker then needs no proof of the range.
 #![tactic(auto)]
 
 mod bound;
@@ -27,57 +25,66 @@ mod modular;
 mod multiples;
 mod plain;
 mod points;
-mod prefix;
+mod problem;
 mod products;
 mod raised;
 mod random;
 mod rows;
-mod signed;
 mod small;
-mod table;
 mod tally;
 
-use modular::{Modulus, multiply_add, power};
+use modular::Modulus;
 use std::io;
 use tally::Tally;
 
-// The powers below 512 of eight primes, each as the digits of p, of n, and of the number of coefficients up to which all polynomials are
-// tried. A product of 64 factors can have 64 classes modulo 67 and 509.
-const ROWS: [u32; 25] = [
-    218, 225, 234, 243, 253, 262, 270, 280, 316, 324, 333, 342, 350, 515, 523, 530, 714, 722, 730,
-    1114, 1120, 1313, 1320, 6710, 50910,
+// The powers below 512 of eight primes, each as p, n, and the number of coefficients up to which all polynomials are tried. A product of
+// 64 factors can have 64 classes modulo 67 and 509.
+const ROWS: [(u32, u32, u32); 25] = [
+    (2, 1, 8),
+    (2, 2, 5),
+    (2, 3, 4),
+    (2, 4, 3),
+    (2, 5, 3),
+    (2, 6, 2),
+    (2, 7, 0),
+    (2, 8, 0),
+    (3, 1, 6),
+    (3, 2, 4),
+    (3, 3, 3),
+    (3, 4, 2),
+    (3, 5, 0),
+    (5, 1, 5),
+    (5, 2, 3),
+    (5, 3, 0),
+    (7, 1, 4),
+    (7, 2, 2),
+    (7, 3, 0),
+    (11, 1, 4),
+    (11, 2, 0),
+    (13, 1, 3),
+    (13, 2, 0),
+    (67, 1, 0),
+    (509, 1, 0),
 ];
 
-// All polynomials with 1 to c coefficients, and for each j below n products of 16 kinds times p^j and 40 drawn polynomials, alone and times
-// p^j.
-fn families(x: Modulus, c: u32, mut tally: Tally) -> Tally {
-    let end = multiply_add(40, x.n, 0, 4294967295);
-    let mut i: u32 = 0;
-    while i < end {
+// All polynomials with 1 to c coefficients, and for each j below n products of 16 kinds times p^j and 40 drawn polynomials, alone and
+// times p^j.
+fn families(x: &Modulus, c: u32, tally: &mut Tally) {
+    for i in 0..40 * x.n {
         if i < c {
-            tally = small::all(x, i + 1, tally);
+            small::all(x, i + 1, tally);
         }
         if i / 16 < x.n {
-            tally = products::all(i % 16, i / 16, x, tally);
+            products::all(i % 16, i / 16, x, tally);
         }
-        tally = drawn::pair(i, i / 40, x, tally);
-        i += 1;
+        drawn::pair(i, i / 40, x, tally);
     }
-    tally
 }
 
 fn main(rt: HostRuntime) -> io::Result<()> {
-    let mut tally = Tally {
-        counts: [0; tally::PLACES],
-    };
-    let mut i: usize = 0;
-    while i < 25 {
-        let row = ROWS[i];
-        let p = row / 100;
-        let n = row / 10 % 10;
-        let m = power(p, n);
-        tally = families(Modulus { p, n, m }, row % 10, tally);
-        i += 1;
+    let mut tally = Tally::new();
+    for (p, n, c) in ROWS {
+        families(&Modulus::new(p, n), c, &mut tally);
     }
     tally.print(&rt)
 }

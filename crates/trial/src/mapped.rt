@@ -1,51 +1,35 @@
 // The root map and its count against the roots.
-use crate::modular::Modulus;
-use crate::plain::Roots;
-use crate::tally::Tally;
-use crate::{library, tally};
+use crate::library;
+use crate::listed::List;
+use crate::problem::Problem;
+use crate::tally::{Kind, Tally};
 
 // The bit of residue r.
-fn bit(map: [u8; 64], r: u32) -> u8 {
-    map[(r / 8 % 64) as usize] >> (r % 8) & 1
+fn bit(map: &[u8], r: u32) -> bool {
+    map.get((r / 8) as usize)
+        .is_some_and(|byte| *byte >> (r % 8) & 1 == 1)
 }
 
-// The map with ones from bit m of its byte on.
-fn with_spare(map: [u8; 64], m: u32) -> [u8; 64] {
-    let mut map = map;
-    let i = (m / 8 % 64) as usize;
-    map[i] = map[i] | 255 << (m % 8);
-    map
+// Compares the count of a map.
+fn compare_count(problem: &Problem, map: &[u8], tally: &mut Tally) {
+    let count = library::count(map, &problem.x);
+    tally.compare(Kind::Ones, count == Ok(problem.roots.count));
 }
 
-// Every bit before `end`; the spare ones after the first m are zero, as the table of roots is.
-fn bits(map: [u8; 64], end: u32, roots: Roots, mut tally: Tally) -> Tally {
-    let mut r: u32 = 0;
-    while r < end {
-        tally = tally.compare(tally::MAP, bit(map, r) == roots.at(r));
-        r += 1;
+// The map of the classes, on bytes that are 255 before the call, and its count without and with ones from bit m on. The spare bits after
+// the first m are zero, as the table of roots is.
+pub(crate) fn compare(problem: &Problem, list: &List, tally: &mut Tally) {
+    let m = problem.x.m;
+    let bytes = (m + 7) / 8;
+    let mut map = [255; 64];
+    let map = &mut map[..bytes as usize];
+    tally.compare(Kind::Map, library::fill(list, &problem.x, map).is_ok());
+    for r in 0..8 * bytes {
+        tally.compare(Kind::Map, bit(map, r) == problem.roots.contains(r));
     }
-    tally
-}
-
-// The map of the first k classes, and its count without and with spare bits set.
-pub(crate) fn compare(
-    residues: [i32; 65],
-    levels: [u8; 65],
-    k: usize,
-    x: Modulus,
-    roots: Roots,
-    tally: Tally,
-) -> Tally {
-    let end = (x.m % 513 + 7) / 8;
-    let bytes = end as usize;
-    let filled = library::fill(residues, levels, k, x, bytes);
-    let map = filled.bits;
-    let count = roots.count as u64;
-    bits(map, end * 8, roots, tally)
-        .compare(tally::MAP, filled.filled)
-        .compare(tally::ONES, library::count(map, bytes, x) == count)
-        .compare(
-            tally::ONES,
-            library::count(with_spare(map, x.m), bytes, x) == count,
-        )
+    compare_count(problem, map, tally);
+    if let Some(last) = map.get_mut((m / 8) as usize) {
+        *last |= 255 << (m % 8);
+    }
+    compare_count(problem, map, tally);
 }

@@ -1,20 +1,19 @@
 // Drawn multiples of a polynomial, which have its roots and others.
-use crate::coefficients::{Polynomial, Source};
-use crate::factors;
-use crate::modular::{Modulus, multiply_add, power};
+use crate::coefficients::Polynomial;
+use crate::factors::{Factor, Product};
+use crate::modular::{Modulus, modulo, power};
 
-// The multiple by the digits of a drawn number of the polynomial whose c coefficients g has: it times p^j, where j is at most n, and one in
+// The multiple by the digits of a drawn number of the polynomial with these coefficients: it times p^j, where j is at most n, and one in
 // two times a factor too.
-pub(crate) fn multiple(g: [u32; 65], c: usize, number: u32, x: Modulus) -> Polynomial {
-    let j = multiply_add(number, 1, 0, x.n % 64 + 1);
-    let scaled = factors::multiply(g, factors::constant(power(x.p, j)), x.m);
-    let source = Source::Residues(number / 16 % 64);
+pub(crate) fn multiple(g: &[u32], number: u32, x: &Modulus) -> Polynomial {
+    let j = modulo(number, x.n + 1);
+    let scaled = Factor::constant(power(x.p, j)).times(g, x.m);
+    let style = number / 16 % 64;
     if number / 1024 % 2 == 0 {
-        return Polynomial::new(source, scaled, c, x.m);
+        return Polynomial::lifting(&scaled, style, g.len(), x.m);
     }
-    let factor = factors::factor_at(number / 2048 % 16, number / 32768, x.p, x.m);
-    let product = factors::multiply(scaled, factor, x.m);
-    let more = c % 66 + factor.e as usize % 512;
-    let end = if more < 65 { more } else { 65 };
-    Polynomial::new(source, product, end, x.m)
+    let factor = Product::numbered(number / 2048 % 16).factor(number / 32768, x);
+    let product = factor.times(&scaled, x.m);
+    let c = g.len().saturating_add(factor.e as usize);
+    Polynomial::lifting(&product, style, c, x.m)
 }

@@ -1,7 +1,5 @@
 // Plain evaluation by Horner's rule.
 use crate::modular::multiply_add;
-use crate::table::entry;
-use std::num::wrapping_add_u32;
 
 // The values of a polynomial and of its derivative.
 #[derive(Clone, Copy)]
@@ -10,46 +8,43 @@ pub(crate) struct Value {
     pub(crate) derivative: u32,
 }
 
-// The values at r of the polynomial with these c coefficients, modulo m.
-pub(crate) fn evaluate(g: [u32; 65], c: usize, r: u32, m: u32) -> Value {
-    let mut value: u32 = 0;
-    let mut derivative: u32 = 0;
-    let mut i = c;
-    while 0 < i {
-        i -= 1;
+// The values at r of the polynomial with these coefficients, modulo m.
+pub(crate) fn evaluate(g: &[u32], r: u32, m: u32) -> Value {
+    let mut value = 0;
+    let mut derivative = 0;
+    for &a in g.iter().rev() {
         derivative = multiply_add(derivative, r, value, m);
-        value = multiply_add(value, r, entry(g, i), m);
+        value = multiply_add(value, r, a, m);
     }
     Value { value, derivative }
 }
 
-// 1 at each root below m, 0 elsewhere, and the number of roots.
+// Residues below 512: whether each is among them, and their number.
 #[derive(Clone, Copy)]
 pub(crate) struct Roots {
-    pub(crate) count: u32,
-    pub(crate) at: [u8; 520],
+    pub(crate) at: [bool; 512],
+    pub(crate) count: u64,
 }
 
 impl Roots {
-    // 1 if r is a root, otherwise 0.
-    pub(crate) fn at(self, r: u32) -> u8 {
-        let i = r as usize;
-        if i < 520 { self.at[i] } else { 0 }
+    // The residues below m that are to be among them.
+    pub(crate) fn new<F: Fn(u32) -> bool>(m: u32, is_root: &F) -> Roots
+        requires { F.IsAlwaysCallable is_root.now }
+    {
+        let mut at = [false; 512];
+        for (r, is) in (0..m).zip(at.iter_mut()) {
+            *is = is_root(r);
+        }
+        let count = at.iter().filter(|&&is| is).count() as u64;
+        Roots { at, count }
     }
-}
 
-// The roots modulo m, which is at most 512.
-pub(crate) fn find_roots(g: [u32; 65], c: usize, m: u32) -> Roots {
-    let mut at = [0u8; 520];
-    let mut count: u32 = 0;
-    let end = m as usize % 513;
-    let mut r: usize = 0;
-    while r < end {
-        let v = evaluate(g, c, r as u32, m);
-        let root = v.value == 0;
-        at[r] = root as u8;
-        count = wrapping_add_u32(count, root as u32);
-        r += 1;
+    // The roots modulo m of the polynomial with these coefficients.
+    pub(crate) fn find(g: &[u32], m: u32) -> Roots {
+        Roots::new(m, &|r| evaluate(g, r, m).value == 0)
     }
-    Roots { count, at }
+
+    pub(crate) fn contains(&self, r: u32) -> bool {
+        self.at.get(r as usize).copied().unwrap_or(false)
+    }
 }

@@ -1,54 +1,41 @@
 // Many points in one call: every residue, and some points that are too large.
-use crate::modular::Modulus;
+use crate::library;
 use crate::plain::Roots;
-use crate::tally::Tally;
-use crate::{library, tally};
+use crate::problem::Problem;
+use crate::tally::{Kind, Tally};
 use solver::Query;
 
 // The records of the eight points from r on, the last first, each with the answer 77.
 fn records(r: u32) -> [Query; 8] {
-    let mut queries = [Query {
-        point: 0,
+    [7, 6, 5, 4, 3, 2, 1, 0].map(|i| Query {
+        point: r.saturating_add(i),
         answer: 77,
-    }; 8];
-    let mut i: u32 = 0;
-    while i < 8 {
-        queries[i as usize] = Query {
-            point: r % 520 + (7 - i),
-            answer: 77,
-        };
-        i += 1;
-    }
-    queries
+    })
 }
 
 // The answer to a point by trial: 8 where it is not below m.
-fn answer(point: u32, m: u32, roots: Roots) -> u32 {
-    if m <= point {
-        return 8;
+fn answer(point: u32, m: u32, roots: &Roots) -> u32 {
+    if point < m {
+        roots.contains(point) as u32
+    } else {
+        8
     }
-    roots.at(point) as u32
 }
 
-// The records of those points after a call.
-fn row(queries: [Query; 8], r: u32, m: u32, roots: Roots, mut tally: Tally) -> Tally {
-    let mut i: u32 = 0;
-    while i < 8 {
-        let query = queries[i as usize];
-        let point = r % 520 + (7 - i);
-        let same = (query.point == point) & (query.answer == answer(point, m, roots));
-        tally = tally.compare(tally::POINT, same);
-        i += 1;
+pub(crate) fn compare(problem: &Problem, tally: &mut Tally) {
+    let x = &problem.x;
+    for i in 0..=x.m / 8 {
+        let given = records(8 * i);
+        let Ok(queries) = library::test_eight(problem.f(), x, given) else {
+            tally.compare(Kind::Point, false);
+            return;
+        };
+        for (query, old) in queries.iter().zip(&given) {
+            let wanted = answer(old.point, x.m, &problem.roots);
+            tally.compare(
+                Kind::Point,
+                query.point == old.point && query.answer == wanted,
+            );
+        }
     }
-    tally
-}
-
-pub(crate) fn compare(f: [i64; 65], c: usize, x: Modulus, roots: Roots, mut tally: Tally) -> Tally {
-    let mut r: u32 = 0;
-    while r <= x.m % 513 {
-        let queries = library::test_eight(f, c, x, records(r));
-        tally = row(queries, r, x.m, roots, tally);
-        r += 8;
-    }
-    tally
 }

@@ -1,9 +1,0 @@
--- `trial::families` is safe and ends: `end - i` falls.
-use Rattle.std.proofs.Common.{◌-◌}
-use Rattle.trial.proofs.families.Given as goal
-
-abbrev pub invariant-loop-i : goal.invariant-loop-i
-invariant-loop-i l = Unit {0}
-
-abbrev pub decreases-loop-i : goal.decreases-loop-i
-decreases-loop-i l = l.end - l.i

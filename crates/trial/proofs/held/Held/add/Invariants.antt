@@ -1,9 +1,0 @@
--- `trial::held::Held::add` is safe and ends: the residues left fall.
-use Rattle.std.proofs.Common.{◌≡◌, ◌-◌, length}
-use Rattle.trial.proofs.held.Held.add.Given as goal
-
-abbrev pub invariant-loop-r : goal.invariant-loop-r
-invariant-loop-r l = length l.unsolved ≡ 520
-
-abbrev pub decreases-loop-r : goal.decreases-loop-r
-decreases-loop-r l = 520 - l.r

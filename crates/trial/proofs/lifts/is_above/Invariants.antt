@@ -1,9 +1,0 @@
--- `trial::lifts::is_above` is safe and ends: the numbers left fall.
-use Rattle.std.proofs.Common.{◌-◌}
-use Rattle.trial.proofs.lifts.is_above.Given as goal
-
-abbrev pub invariant-loop-i : goal.invariant-loop-i
-invariant-loop-i l = Unit {0}
-
-abbrev pub decreases-loop-i : goal.decreases-loop-i
-decreases-loop-i l = l.numbers - l.i

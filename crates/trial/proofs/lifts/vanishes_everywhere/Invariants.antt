@@ -1,9 +1,0 @@
--- `trial::lifts::vanishes_everywhere` is safe and ends: the digits left fall.
-use Rattle.std.proofs.Common.{◌-◌}
-use Rattle.trial.proofs.lifts.vanishes_everywhere.Given as goal
-
-abbrev pub invariant-loop-d : goal.invariant-loop-d
-invariant-loop-d l = Unit {0}
-
-abbrev pub decreases-loop-d : goal.decreases-loop-d
-decreases-loop-d l = l.p - l.d

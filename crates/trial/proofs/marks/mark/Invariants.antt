@@ -1,9 +1,0 @@
--- `trial::marks::mark` is safe and ends: the members left fall.
-use Rattle.std.proofs.Common.{◌-◌}
-use Rattle.trial.proofs.marks.mark.Given as goal
-
-abbrev pub invariant-loop-i : goal.invariant-loop-i
-invariant-loop-i l = Unit {0}
-
-abbrev pub decreases-loop-i : goal.decreases-loop-i
-decreases-loop-i l = l.members - l.i

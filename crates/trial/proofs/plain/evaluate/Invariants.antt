@@ -1,8 +1,0 @@
--- `trial::plain::evaluate` is safe and ends: `i` falls.
-use Rattle.trial.proofs.plain.evaluate.Given as goal
-
-abbrev pub invariant-loop-i : goal.invariant-loop-i
-invariant-loop-i l = Unit {0}
-
-abbrev pub decreases-loop-i : goal.decreases-loop-i
-decreases-loop-i l = l.i

@@ -1,9 +1,0 @@
--- `trial::rows::compare` is safe and ends: the calls left fall.
-use Rattle.std.proofs.Common.{◌-◌}
-use Rattle.trial.proofs.rows.compare.Given as goal
-
-abbrev pub invariant-loop-i : goal.invariant-loop-i
-invariant-loop-i l = Unit {0}
-
-abbrev pub decreases-loop-i : goal.decreases-loop-i
-decreases-loop-i l = l.end - l.i

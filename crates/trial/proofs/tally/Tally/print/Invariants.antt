@@ -1,9 +1,0 @@
--- `trial::tally::Tally::print` is safe and ends: the bytes left fall.
-use Rattle.std.proofs.Common.{◌-◌, length}
-use Rattle.trial.proofs.tally.Tally.print.Given as goal
-
-abbrev pub invariant-loop-i : goal.invariant-loop-i
-invariant-loop-i g l = Unit {0}
-
-abbrev pub decreases-loop-i : goal.decreases-loop-i
-decreases-loop-i g l = length l.form - l.i
