@@ -96,6 +96,10 @@ module _ (residues : List ℤ) (levels : List ℕ) (m : ℕ) (hr : m ≤ length 
   pub index_absent : ((k : ℕ) → k < m → get_or residues k (pos 0) ≡ a → ⊥) → index_of (classes_of residues levels) m (signed_class a t) ≡ m
   index_absent none = nowhere (λ k h e. none k h (λ i. (same k h e i).residue))
 
+  -- no entry has the level
+  pub index_absent_level : ((k : ℕ) → k < m → get_or levels k 0 ≡ t → ⊥) → index_of (classes_of residues levels) m (signed_class a t) ≡ m
+  index_absent_level none = nowhere (λ k h e. none k h (λ i. (same k h e i).level))
+
   -- entry j has it
   module _ (R : RisingTo residues m) (j : ℕ) (h : j < m) (ea : residue j ≡ a) where
     only : (k : ℕ) → k < m → same_class (signed_slot L k) c ≡ true → k ≡ j

@@ -13,9 +13,10 @@ pub(crate) fn first_fault(p: u32, n: u32, residues: &[i32], levels: &[u8]) -> us
     let m = usable::first_unusable(p, n, residues, levels);
     let residues = &residues[..m];
     let levels = &levels[..m];
+    let present = overlap::levels_present(levels);
     let mut first = m;
     for i in 0..m {
-        first = overlap::least_overlap(p, residues, levels, i, first);
+        first = overlap::least_overlap(p, &present, residues, levels, i, first);
     }
     first
 }

@@ -1,6 +1,6 @@
 -- How the first fault of a list is searched for. An earlier entry may lie inside a later one (p = 3: −2/2 before 1/1), so the larger
 -- classes around each entry are looked up among all entries that have no fault of their own.
-use Rattle.std.specs.Prelude.{◌≡◌, Bool, true, false, ◌&&◌, ◌||◌, List, ℕ, zero, suc, ◌+◌, ◌-◌, ◌*◌, ◌/◌, ◌^◌, ◌<◌, min, max, eqb, leb, ℤ, pos, negsuc, length, get_or}
+use Rattle.std.specs.Prelude.{◌≡◌, Bool, true, false, ◌&&◌, ◌||◌, List, ℕ, zero, suc, ◌+◌, ◌-◌, ◌*◌, ◌/◌, ◌%◌, ◌^◌, ◌<◌, min, max, eqb, leb, ℤ, pos, negsuc, length, get_or}
 use Rattle.std.specs.Int.Signed.{lt_z}
 use Rattle.theory.specs.Range.{least}
 use Rattle.theory.specs.Polynomial.{reduce}
@@ -25,6 +25,10 @@ usable_to p n L = least (unusable_at p n L) (length L) 0
 -- the first m numbers rise strictly
 pub record RisingTo (l : List ℤ) (m : ℕ) : Type 0 where
   pub rises : (j k : ℕ) → j < k → k < m → lt_z (get_or l j (pos 0)) (get_or l k (pos 0)) ≡ true
+
+-- a table that is true at the level of each entry, modulo 32
+pub record Present (present : List Bool) (levels : List ℕ) : Type 0 where
+  pub tells : (j : ℕ) → j < length levels → get_or present (get_or levels j 0 % 32) false ≡ true
 
 -- the same integer
 abbrev pub eq_z : ℤ → ℤ → Bool

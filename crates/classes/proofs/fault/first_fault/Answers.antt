@@ -75,6 +75,7 @@ least_overlap-first-requires c =
       rw residues (rw (← l.invariant) at low),
       c.requires.0,
       level_within a.p a.n a.residues.now a.levels.now c.requires m m-is l.i c.loop-i-test.true,
+      c.levels_present-present.ensures,
     )
 
 pub loop-i-preserved : goal.loop-i-preserved
