@@ -9,6 +9,16 @@ ghost use Rattle.systems.specs.inner.Slots.{Polynomials};
 
 use crate::{Common, Held, cut};
 
+// Copies a list into another of its length. A loop, since with `copy_from_slice` the archive for C would need memmove.
+pub(crate) fn copy<T: Copy>(from: &[T], to: &mut [T])
+    requires { length to.old ≡ length from.now }
+    ensures { to.new ≡ from.now }
+{
+    for (i, x) in from.iter().enumerate() {
+        to[i] = *x;
+    }
+}
+
 impl Common {
     // The list of a system that is not opened.
     pub(crate) const NONE: Common = Common {

@@ -90,7 +90,7 @@ impl System {
     {
         let count = self.count.min(16);
         let at = slots::index_of(&self.held[..count], tag).ok_or(Refusal::Tag)?;
-        self.held[at..].rotate_left(1);
+        slots::close_gap(&mut self.held, at);
         self.held[15] = Held::BLANK;
         self.count = count - 1;
         self.common = Common::cut_by_all(self.p, self.n, &self.held[..count - 1]);
@@ -111,8 +111,8 @@ impl System {
             return Err(Refusal::TooFewSlots(classes));
         }
         let front = classes.min(1024);
-        residues[..front].copy_from_slice(&self.common.residues[..front]);
-        levels[..front].copy_from_slice(&self.common.levels[..front]);
+        common_list::copy(&self.common.residues[..front], &mut residues[..front]);
+        common_list::copy(&self.common.levels[..front], &mut levels[..front]);
         Ok(Listed {
             classes,
             roots: self.common.roots,

@@ -1,5 +1,5 @@
 // The slots of the held polynomials.
-ghost use Rattle.std.specs.Prelude.{◌≡◌, ◌==◌, ◌^◌, ◌≤◌, ◌<◌, length, position, replicate};
+ghost use Rattle.std.specs.Prelude.{◌≡◌, ◌==◌, [], ◌∷◌, ◌++◌, ◌^◌, ◌≤◌, ◌<◌, length, get_or, position, remove, replicate};
 ghost use Rattle.numbers.specs.inner.Usable.{Usable};
 ghost use Rattle.systems.specs.Model.{congruence};
 ghost use Rattle.systems.specs.State.{blank as blank_of, held_of};
@@ -12,6 +12,17 @@ pub(crate) fn index_of(held: &[Held], tag: u32) -> Option<usize>
     ensures { result ≡ position (λ h. h.tag == tag) held.now }
 {
     held.iter().position(|h| h.tag == tag)
+}
+
+// Moves the slots after this one up by one; the last keeps its content. A loop, since with `rotate_left` the archive for C would need
+// memmove.
+pub(crate) fn close_gap(held: &mut [Held; 16], at: usize)
+    requires { at < 16 }
+    ensures { held.new ≡ remove held.old at ++ (get_or held.old 15 blank_of ∷ []) }
+{
+    for i in at..15 {
+        held[i] = held[i + 1];
+    }
 }
 
 impl Held {

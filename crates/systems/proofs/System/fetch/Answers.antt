@@ -17,5 +17,5 @@ returns c M H =
     let a = c.args in
     let front : c.min-front.result ≡ a.self.now.common.classes = omega (arith, classes-are H, common-few H) in
     rw front (fetch-found H a.residues.now a.levels.now c.if-slots-levels.false c.if-slots-classes.false
-    (ap (λ (l : List ℤ). l ++ drop a.self.now.common.classes a.residues.now) (rw front at c.copy_from_slice.ensures.after))
-    (ap (λ (l : List ℕ). l ++ drop a.self.now.common.classes a.levels.now) (rw front at c.copy_from_slice-2.ensures.after)))
+    (ap (λ (l : List ℤ). l ++ drop a.self.now.common.classes a.residues.now) (rw front at c.copy.ensures))
+    (ap (λ (l : List ℕ). l ++ drop a.self.now.common.classes a.levels.now) (rw front at c.copy-2.ensures)))

@@ -1,10 +1,8 @@
 -- `systems::System::withdraw` meets its contract.
-use Rattle.std.proofs.Common.{◌≡◌, ℕ, ◌-◌, ◌<◌, set, false, Result, Err, Option, Some, None, List, is_some, sym, ap, ◌∙◌, arith}
-use borrow.Rule.Slice.PartMut.{put_mid}
+use Rattle.std.proofs.Common.{◌≡◌, ℕ, ◌<◌, set, false, Result, Err, Option, Some, None, List, is_some, sym, ap, ◌∙◌, arith}
 use Rattle.std.specs.Option.{ok_or}
 use Rattle.std.specs.Result.{result_ok}
 use Rattle.std.proofs.lemmas.Result.{err_from_is_err_and}
-use Rattle.std.proofs.lemmas.Slice.{put_mid-rotated}
 use Rattle.systems.specs.declared.Held.{Held}
 use Rattle.systems.specs.Model.{is_held, without}
 use Rattle.systems.specs.State.{slots, blank}
@@ -38,10 +36,6 @@ returns c M H =
     let there : c.index_of.result ≡ Some at = c.ok_or.ensures.ok_part ∙ ap result_ok c.in_ok-at.was in
     let S = tag_sought H a.tag c.min-count.result n c.index_of.result c.index_of.ensures at there in
     let inside : at < 16 = omega (arith, S.inside, H.few) in
-    let rotated =
-    put_mid-rotated at (16 - at) a.self.now.held c.rotate_left.new.self blank (omega (arith, inside)) (omega (arith, inside))
-    c.rotate_left.ensures.after in
-    let left : set (put_mid at (16 - at) a.self.now.held c.rotate_left.new.self) 15 blank
-    ≡ slots 16 blank (kept M.p M.n a.tag (without a.tag M.held)) =
-    ap (λ (l : List Held). set l 15 blank) rotated ∙ left_is H a.tag at S _ in
+    let left : set c.close_gap.new.held 15 blank ≡ slots 16 blank (kept M.p M.n a.tag (without a.tag M.held)) =
+    ap (λ (l : List Held). set l 15 blank) c.close_gap.ensures ∙ left_is H a.tag at S _ in
     withdraw-done H a.tag n S.is_there left (cut-all-is H a.tag at S c.min-count.result n left c.cut_by_all-self.ensures)
