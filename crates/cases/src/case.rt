@@ -1,6 +1,7 @@
 // A case as its text says it.
 ghost use Rattle.std.specs.Prelude.{◌≤◌, ◌<◌};
 
+use crate::list::first;
 use crate::lists::Lists;
 use crate::operation::Operation;
 use crate::rows::{Row, part};
@@ -17,8 +18,8 @@ pub(crate) struct Case<'a> {
     pub(crate) expected: Row,
     // the answer's first letter, or # for a digit
     pub(crate) letter: u8,
-    // the texts of call and answer, as they are printed
-    pub(crate) printed: (&'a [u8], &'a [u8]),
+    // the text of call and answer, as it is printed
+    pub(crate) printed: &'a [u8],
     // the text after the case
     pub(crate) after: &'a [u8],
     // what the writer is to write
@@ -49,8 +50,8 @@ impl<'a> Case<'a> {
     pub(crate) fn read(operation: u8, text: &'a [u8], rest: &'a [u8]) -> Case<'a> {
         let operation = Operation::from(operation);
         let (slots, rest) = part(rest, b';');
-        let (f, rest) = part(rest, b'|');
-        let (call, rest) = part(rest, b':');
+        let (f, called) = part(rest, b'|');
+        let (call, rest) = part(called, b':');
         let (answer, after) = part(rest, b'\n');
         let said = Row::read(call);
         let lists = Lists::read(&said, operation.each());
@@ -62,7 +63,7 @@ impl<'a> Case<'a> {
             lists,
             expected: Row::read(answer),
             letter: letter(following(text, rest)),
-            printed: (call, answer),
+            printed: first(called, call.len().saturating_add(answer.len())),
             after,
             written: following(text, after),
         }

@@ -1,6 +1,5 @@
 // The plain model of a system: the tags that are held, and at each residue those whose polynomial it does not solve.
 use crate::plain::Roots;
-use refusal::Refusal;
 
 // Sets of tags, of which there are 32: bit k for tag number k.
 #[derive(Clone, Copy)]
@@ -22,13 +21,13 @@ impl Held {
         self.tags >> (k % 32) & 1 == 1
     }
 
-    // Adds a polynomial that has these roots under tag k, and gives the answer.
-    pub(crate) fn add(&mut self, k: u32, roots: &Roots) -> Result<(), Refusal> {
+    // Adds a polynomial that has these roots under tag k, and gives the answer: on refusal its number.
+    pub(crate) fn add(&mut self, k: u32, roots: &Roots) -> Result<(), u32> {
         if self.has(k) {
-            return Err(Refusal::Tag);
+            return Err(15);
         }
         if self.tags.count_ones() == 16 {
-            return Err(Refusal::Full);
+            return Err(16);
         }
         let tag = 1 << (k % 32);
         self.tags |= tag;
@@ -41,9 +40,9 @@ impl Held {
     }
 
     // Withdraws the polynomial under tag k, and gives the answer.
-    pub(crate) fn withdraw(&mut self, k: u32) -> Result<(), Refusal> {
+    pub(crate) fn withdraw(&mut self, k: u32) -> Result<(), u32> {
         if !self.has(k) {
-            return Err(Refusal::Tag);
+            return Err(15);
         }
         let others = !(1 << (k % 32));
         self.tags &= others;

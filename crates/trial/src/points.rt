@@ -28,7 +28,7 @@ pub(crate) fn compare(problem: &Problem, tally: &mut Tally) {
         let given = records(8 * i);
         let Ok(queries) = library::test_eight(problem.f(), x, given) else {
             tally.compare(Kind::Point, false);
-            return;
+            continue;
         };
         for (query, old) in queries.iter().zip(&given) {
             let wanted = answer(old.point, x.m, &problem.roots);

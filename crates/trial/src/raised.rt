@@ -39,13 +39,15 @@ fn solved_and_raised(problem: &Problem, j: u32) -> Result<Solution, Refusal> {
     library::raise(problem.f(), j, x, &lower.solution.list)
 }
 
-// The solver's list at a precision up to n, and for every second polynomial a drawn one; s is the solver's answer at n.
-pub(crate) fn compare(problem: &Problem, s: &Solved, tally: &mut Tally) {
+// The solver's list at a precision up to n, and for every second polynomial a drawn one; `solved` is the solver's answer at n.
+pub(crate) fn compare(problem: &Problem, solved: &Result<Solved, Refusal>, tally: &mut Tally) {
     let x = &problem.x;
     let seed = tally.seed();
     let j = modulo(seed, x.n) + 1;
-    let raised = solved_and_raised(problem, j);
-    tally.compare(Kind::Raised, raised == Ok(s.solution));
+    if let Ok(s) = solved {
+        let raised = solved_and_raised(problem, j);
+        tally.compare(Kind::Raised, raised == Ok(s.solution));
+    }
     if draw(seed, j, 5) % 2 == 0 {
         return;
     }

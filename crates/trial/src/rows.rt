@@ -7,6 +7,7 @@ use crate::problem::Problem;
 use crate::random::draw;
 use crate::tally::{Kind, Tally};
 use crate::{entries, library, multiples};
+use refusal::Refusal;
 use systems::System;
 
 // Tag number k of 32: 0 to 15, and these plus 2^32 − 2^16, so that some agree in the low half, others in the high one.
@@ -46,14 +47,15 @@ impl State {
     // Adds a polynomial under tag k.
     fn add(&mut self, k: u32, polynomial: &Polynomial, x: &Modulus, tally: &mut Tally) {
         let roots = Roots::find(polynomial.residues(), x.m);
-        let answer = self.system.add(tag(k), polynomial.coefficients());
+        let added = self.system.add(tag(k), polynomial.coefficients());
+        let answer = added.map_err(Refusal::number);
         tally.compare(Kind::Call, answer == self.held.add(k, &roots));
         self.compare(x, tally);
     }
 
     // Withdraws that under tag k.
     fn withdraw(&mut self, k: u32, x: &Modulus, tally: &mut Tally) {
-        let answer = self.system.withdraw(tag(k));
+        let answer = self.system.withdraw(tag(k)).map_err(Refusal::number);
         tally.compare(Kind::Call, answer == self.held.withdraw(k));
         self.compare(x, tally);
     }
